@@ -1,1 +1,5 @@
 pub mod Refusals
+pub mod Content
+pub mod Meaning
+pub mod Window
+pub mod Reading

@@ -40,25 +40,67 @@ pub enum ProtocolClass {
 #[derive(Clone, Copy)]
 pub enum Message<'a> {
     // CR
-    ConnectionRequest { source: Reference, class: ProtocolClass, subsystem: Subsystem },
+    ConnectionRequest {
+        source: Reference,
+        class: ProtocolClass,
+        subsystem: Subsystem,
+    },
     // CC
-    ConnectionConfirm { destination: Reference, source: Reference, class: ProtocolClass },
+    ConnectionConfirm {
+        destination: Reference,
+        source: Reference,
+        class: ProtocolClass,
+    },
     // CREF
-    ConnectionRefused { destination: Reference, cause: Cause },
+    ConnectionRefused {
+        destination: Reference,
+        cause: Cause,
+    },
     // RLSD
-    Released { destination: Reference, source: Reference, cause: Cause },
+    Released {
+        destination: Reference,
+        source: Reference,
+        cause: Cause,
+    },
     // RLC
-    ReleaseComplete { destination: Reference, source: Reference },
+    ReleaseComplete {
+        destination: Reference,
+        source: Reference,
+    },
     // DT1
-    DataForm1 { destination: Reference, more: bool, data: &'a [u8] },
+    DataForm1 {
+        destination: Reference,
+        more: bool,
+        data: &'a [u8],
+    },
     // DT2
-    DataForm2 { destination: Reference, send: SequenceNumber, receive: SequenceNumber, more: bool, data: &'a [u8] },
+    DataForm2 {
+        destination: Reference,
+        send: SequenceNumber,
+        receive: SequenceNumber,
+        more: bool,
+        data: &'a [u8],
+    },
     // AK
-    DataAcknowledgement { destination: Reference, receive: SequenceNumber, credit: Credit },
+    DataAcknowledgement {
+        destination: Reference,
+        receive: SequenceNumber,
+        credit: Credit,
+    },
     // RSR
-    ResetRequest { destination: Reference, source: Reference, cause: Cause },
+    ResetRequest {
+        destination: Reference,
+        source: Reference,
+        cause: Cause,
+    },
     // RSC
-    ResetConfirm { destination: Reference, source: Reference },
+    ResetConfirm {
+        destination: Reference,
+        source: Reference,
+    },
     // ERR
-    Error { destination: Reference, cause: ErrorCause },
+    Error {
+        destination: Reference,
+        cause: ErrorCause,
+    },
 }

@@ -98,6 +98,9 @@ impl Refusal {
     pub fn at(self, place: usize) -> Fault
         ensures { λ r. ⌜ r ≡ record { refusal = self; place = place } ⌝ }
     {
-        Fault { refusal: self, place }
+        Fault {
+            refusal: self,
+            place,
+        }
     }
 }
