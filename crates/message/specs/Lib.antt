@@ -3,3 +3,4 @@ pub mod Content
 pub mod Meaning
 pub mod Window
 pub mod Reading
+pub mod Layout

@@ -3,5 +3,6 @@ pub mod content;
 pub mod fault;
 mod kind;
 mod reader;
+mod writer;
 
 pub use reader::read;
