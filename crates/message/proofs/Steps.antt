@@ -42,6 +42,10 @@ pub lift-gives : {A : Type 0} (r : Result A Fault) (w : Window) (p : A × Window
 lift-gives (Ok x) w p e = let same : p ≡ (x, w) = cc in ap (λ q. q .1) same
 lift-gives (Err fault) w p e = absurd (let z : _≡_ {A = ℕ} 0 1 = cc in omega arith)
 
+pub lift-value : {A : Type 0} (r : Result A Fault) (w : Window) (p : A × Window) → lift r w ≡ Ok p → r ≡ Ok (p .0)
+lift-value (Ok x) w p e = let same : (x, w) ≡ p = cc in ap (λ q. Ok (q .0)) same
+lift-value (Err fault) w p e = absurd (let z : _≡_ {A = ℕ} 0 1 = cc in omega arith)
+
 cond-same : {X : Type 0} (b : Bool) (x y z : X) → y ≡ z → cond b x y ≡ cond b x z
 cond-same true x y z e = refl
 cond-same false x y z e = e

@@ -55,3 +55,61 @@ written-answer c buffer =
 -- what writing leaves: a refusal changes nothing
 abbrev pub written-buffer : Content → List ℕ → List ℕ
 written-buffer c buffer = cond (ltb (length buffer) 268) buffer (cond (within c) (laid c buffer) buffer)
+
+-- Which octet strings are laid out as a message
+
+-- three octets, the lowest first, and not 0
+abbrev pub Is-reference : ℕ → List ℕ → Type 0
+Is-reference v octets = (low middle high : ℕ) × (octets ≡ low ∷ middle ∷ high ∷ []) × (v ≡ low + 256 * middle + 65536 * high) × (0 < v)
+
+-- an optional part is the octet 00, or a parameter followed by an optional part. A parameter is a name other than 00, a length of at least 1, and contents.
+-- Where a credit is due, name 09 is the credit, of length 1 and only once; all other names are stepped over. The credit, if any, stands in front of the octets
+pub data Is-optional (due : Bool) : Option ℕ → List ℕ → Type 0 where
+  ended : Is-optional due None (0 ∷ [])
+  with-credit : {x : ℕ} {rest : List ℕ} → due ≡ true → Is-optional due None rest → Is-optional due (Some x) (9 ∷ 1 ∷ x ∷ rest)
+  with-other : {found : Option ℕ} {name : ℕ} (contents : List ℕ) {rest : List ℕ} → (name ≡ 0 → ⊥) → (due ≡ true → name ≡ 9 → ⊥) → 1 ≤ length contents →
+    Is-optional due found rest → Is-optional due found (name ∷ length contents ∷ contents ++ rest)
+
+-- the pointer O and all that follows it: O is 00 and no optional part follows, or O counts the octets from itself to the optional part, which ends the message.
+-- What stands between O and that part is `between`
+abbrev pub Points : Bool → List ℕ → Option ℕ → List ℕ → Type 0
+Points due between found octets =
+    ((octets ≡ 0 ∷ between) × (found ≡ None)) ⊎ ((rest : List ℕ) × (octets ≡ (1 + length between) ∷ between ++ rest) × Is-optional due found rest)
+
+-- class 2 has no credit, which counts as 0; class 3 has one of 1 to 127
+abbrev pub Has-credit : ℕ → ℕ → Option ℕ → Type 0
+Has-credit class credit found =
+    ((class ≡ 2) × (credit ≡ 0) × (found ≡ None)) ⊎ ((class ≡ 3) × (found ≡ Some credit) × (1 ≤ credit) × (credit ≤ 127))
+
+-- a message by its layout: the type, the fixed fields, the pointers, the variable part straight behind them, and the optional part.
+-- V counts the octets from itself to the variable part: 2 where O stands between, otherwise 1
+abbrev pub Laid-out : Content → List ℕ → Type 0
+Laid-out (connection-request source class credit subsystem) octets =
+    (s rest : List ℕ) × (found : Option ℕ) × (octets ≡ 1 ∷ s ++ class ∷ 2 ∷ rest) × Is-reference source s
+    × Points true (2 ∷ 66 ∷ subsystem ∷ []) found rest × (1 ≤ subsystem) × Has-credit class credit found
+Laid-out (connection-confirm destination source class credit) octets =
+    (d s rest : List ℕ) × (found : Option ℕ) × (octets ≡ 2 ∷ d ++ (s ++ class ∷ rest)) × Is-reference destination d × Is-reference source s
+    × Points true [] found rest × Has-credit class credit found
+Laid-out (connection-refused destination cause) octets =
+    (d rest : List ℕ) × (found : Option ℕ) × (octets ≡ 3 ∷ d ++ cause ∷ rest) × Is-reference destination d × (cause ≤ 15) × Points false [] found rest
+Laid-out (released destination source cause) octets =
+    (d s rest : List ℕ) × (found : Option ℕ) × (octets ≡ 4 ∷ d ++ (s ++ cause ∷ rest)) × Is-reference destination d × Is-reference source s
+    × (cause ≤ 15) × Points false [] found rest
+Laid-out (release-complete destination source) octets =
+    (d s : List ℕ) × (octets ≡ 5 ∷ d ++ s) × Is-reference destination d × Is-reference source s
+Laid-out (data-form-1 destination more segment) octets =
+    (d : List ℕ) × (octets ≡ 6 ∷ d ++ more-octet more ∷ 1 ∷ length segment ∷ segment) × Is-reference destination d × (1 ≤ length segment)
+Laid-out (data-form-2 destination send receive more segment) octets =
+    (d : List ℕ) × (octets ≡ 7 ∷ d ++ (send * 2) ∷ (receive * 2 + more-octet more) ∷ 1 ∷ length segment ∷ segment) × Is-reference destination d × (1 ≤ length segment)
+Laid-out (data-acknowledgement destination receive credit) octets =
+    (d : List ℕ) × (octets ≡ 8 ∷ d ++ (receive * 2) ∷ credit ∷ []) × Is-reference destination d × (1 ≤ credit) × (credit ≤ 127)
+Laid-out (reset-request destination source cause) octets =
+    (d s : List ℕ) × (octets ≡ 13 ∷ d ++ (s ++ cause ∷ [])) × Is-reference destination d × Is-reference source s × (cause ≤ 15)
+Laid-out (reset-confirm destination source) octets =
+    (d s : List ℕ) × (octets ≡ 14 ∷ d ++ s) × Is-reference destination d × Is-reference source s
+Laid-out (error destination cause) octets =
+    (d : List ℕ) × (octets ≡ 15 ∷ d ++ cause ∷ []) × Is-reference destination d × (cause ≤ 4)
+
+-- an octet string is a message with this content: it is laid out so, and has at most 268 octets
+abbrev pub Is-message : Content → List ℕ → Type 0
+Is-message c octets = (length octets ≤ 268) × Laid-out c octets
