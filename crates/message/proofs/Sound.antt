@@ -19,7 +19,7 @@ use Rattle.message.specs.declared.fault.Refusal.the-variants.{CutShort, Variab
 use Rattle.message.specs.Window.{Window, then, lift}
 use Rattle.message.specs.Content as content
 use Rattle.message.specs.Content.{Content}
-use Rattle.message.specs.Reading.{header, octet, ends, reference, field, sequence-number, pointer, points-here, variable, counted, called-address, optional-part, agreed, connection-request, connection-confirm, connection-refused, released, release-complete, data-form-1, data-form-2, data-acknowledgement, reset-request, reset-confirm, error, message-of, value, reading}
+use Rattle.message.specs.Reading.{header, octet, ends, reference, field, sequence-number, pointer, points-here, variable, counted, called-address, optional-part, agreed, two-references, connection-request, connection-confirm, connection-refused, released, release-complete, data-form-1, data-form-2, data-acknowledgement, reset-request, reset-confirm, error, message-of, value, reading}
 use Rattle.message.specs.Layout.{Is-reference, Is-optional, Points, Has-credit, Laid-out, Is-message, more-octet}
 use Rattle.message.proofs.Steps.{lift-value}
 use Rattle.message.proofs.Fields.{rest, first, Past, octet-front, ends-front, counted-front, reference-front, field-front, sequence-front, pointer-front, points-front, address-front}
@@ -143,25 +143,28 @@ module _ (w : Window) (p : Content × Window) where
     let points = points-laid false [] (o .0 .0) (c .0 .1) (o .0 .1) (f .0) (fo .0) (ap (λ x. x + 1) (fo .1) ∙ sym (fo .2 .1)) (f .1) in
     given _ _ p (4 ∷ rest w) (f .2) (fd .0, fs .0, rest (c .0 .1), f .0 .0, rw (fd .1, fs .1, fc .0) refl, fd .2, fs .2, fc .2, points)
 
-  complete-laid : release-complete w ≡ Ok p → Laid-out (p .0) (5 ∷ rest w)
-  complete-laid e =
+  references-laid : (type : ℕ) (p : (ℕ × ℕ) × Window) → two-references w ≡ Ok p →
+      (d s : List ℕ) × (type ∷ rest w ≡ type ∷ d ++ s) × Is-reference (p .0 .0) d × Is-reference (p .0 .1) s
+  unfolding two-references
+  references-laid type p e =
     let d = first (reference w) _ p (header-passed 7 w _ p e) in
     let s = first (reference (d .0 .1)) _ p (d .2) in
     let n = first (ends VariablePart (s .0 .1)) _ p (s .2) in
     let fd = reference-front w (d .0) (d .1) in
     let fs = reference-front (d .0 .1) (s .0) (s .1) in
     let fn = ends-front VariablePart (s .0 .1) (n .0) (n .1) in
-    given _ _ p (5 ∷ rest w) (n .2) (fd .0, fs .0, rw (fd .1, fs .1, fn .0) (ap (λ xs. 5 ∷ fd .0 ++ xs) (append-nil (fs .0))), fd .2, fs .2)
+    let same : p .0 ≡ (d .0 .0, s .0 .0) = ended (n .0 .1) p (n .2) in
+    (fd .0, fs .0, rw (fd .1, fs .1, fn .0) (ap (λ xs. type ∷ fd .0 ++ xs) (append-nil (fs .0))),
+      subst (λ (x : ℕ). Is-reference x (fd .0)) (sym (ap (λ q. q .0) same)) (fd .2), subst (λ (x : ℕ). Is-reference x (fs .0)) (sym (ap (λ q. q .1) same)) (fs .2))
+    where
+      ended : {a : ℕ × ℕ} (v : Window) (p : (ℕ × ℕ) × Window) → _≡_ {A = Result ((ℕ × ℕ) × Window) Fault} (Ok (a, v)) (Ok p) → p .0 ≡ a
+      ended {a} v p e = let same : p ≡ (a, v) = cc in ap (λ q. q .0) same
+
+  complete-laid : release-complete w ≡ Ok p → Laid-out (p .0) (5 ∷ rest w)
+  complete-laid e = let b = first (two-references w) _ p e in given _ _ p (5 ∷ rest w) (b .2) (references-laid 5 (b .0) (b .1))
 
   confirmed-laid : reset-confirm w ≡ Ok p → Laid-out (p .0) (14 ∷ rest w)
-  confirmed-laid e =
-    let d = first (reference w) _ p (header-passed 7 w _ p e) in
-    let s = first (reference (d .0 .1)) _ p (d .2) in
-    let n = first (ends VariablePart (s .0 .1)) _ p (s .2) in
-    let fd = reference-front w (d .0) (d .1) in
-    let fs = reference-front (d .0 .1) (s .0) (s .1) in
-    let fn = ends-front VariablePart (s .0 .1) (n .0) (n .1) in
-    given _ _ p (14 ∷ rest w) (n .2) (fd .0, fs .0, rw (fd .1, fs .1, fn .0) (ap (λ xs. 14 ∷ fd .0 ++ xs) (append-nil (fs .0))), fd .2, fs .2)
+  confirmed-laid e = let b = first (two-references w) _ p e in given _ _ p (14 ∷ rest w) (b .2) (references-laid 14 (b .0) (b .1))
 
   reset-laid : reset-request w ≡ Ok p → Laid-out (p .0) (13 ∷ rest w)
   reset-laid e =

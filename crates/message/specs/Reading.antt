@@ -186,13 +186,19 @@ released = do
   optional-part false o
   give (content.released destination source cause)
 
-abbrev pub release-complete : Read Content
-release-complete = do
+-- RLC and RSC: a destination and a source
+unfoldable pub two-references : Read (ℕ × ℕ)
+two-references = do
   header 7
   destination ← reference
   source ← reference
   ends VariablePart
-  give (content.release-complete destination source)
+  give (destination, source)
+
+abbrev pub release-complete : Read Content
+release-complete = do
+  both ← two-references
+  give (content.release-complete (both .0) (both .1))
 
 abbrev pub data-form-1 : Read Content
 data-form-1 = do
@@ -237,11 +243,8 @@ reset-request = do
 
 abbrev pub reset-confirm : Read Content
 reset-confirm = do
-  header 7
-  destination ← reference
-  source ← reference
-  ends VariablePart
-  give (content.reset-confirm destination source)
+  both ← two-references
+  give (content.reset-confirm (both .0) (both .1))
 
 abbrev pub error : Read Content
 error = do

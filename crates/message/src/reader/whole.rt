@@ -2,11 +2,12 @@
 ghost use Prim.Native.Nat.{ℕ, _+_, _<_, _≤_};
 ghost use mathlib.Core.Path.{_≡_};
 ghost use Rattle.message.specs.Meaning.{means};
-ghost use Rattle.message.specs.Window.{window};
+ghost use Rattle.message.specs.Window.{window, outcome};
 ghost use Rattle.message.specs.Reading as reading;
 use crate::content::Cause;
 use crate::content::Credit;
 use crate::content::Message;
+use crate::content::Reference;
 use crate::content::SequenceNumber;
 use crate::fault::Fault;
 use crate::fault::Refusal;
@@ -113,13 +114,21 @@ impl<'a> Reader<'a> {
         })
     }
 
-    fn release_complete(&mut self) -> Result<Message<'a>, Fault>
-        ensures { λ r. ⌜ means r ≡ reading.value (reading.release-complete (window (now (self .entry)))) ⌝ }
+    // RLC and RSC: a destination and a source.
+    fn two_references(&mut self) -> Result<(Reference, Reference), Fault>
+        ensures { λ r. ⌜ outcome (λ x. (x .0 .0, x .1 .0)) r (now (self .exit)) ≡ reading.two-references (window (now (self .entry))) ⌝ }
     {
         self.header(7)?;
         let destination = self.reference()?;
         let source = self.reference()?;
         self.ends(Refusal::VariablePart)?;
+        Ok((destination, source))
+    }
+
+    fn release_complete(&mut self) -> Result<Message<'a>, Fault>
+        ensures { λ r. ⌜ means r ≡ reading.value (reading.release-complete (window (now (self .entry)))) ⌝ }
+    {
+        let (destination, source) = self.two_references()?;
         Ok(Message::ReleaseComplete {
             destination,
             source,
@@ -197,10 +206,7 @@ impl<'a> Reader<'a> {
     fn reset_confirm(&mut self) -> Result<Message<'a>, Fault>
         ensures { λ r. ⌜ means r ≡ reading.value (reading.reset-confirm (window (now (self .entry)))) ⌝ }
     {
-        self.header(7)?;
-        let destination = self.reference()?;
-        let source = self.reference()?;
-        self.ends(Refusal::VariablePart)?;
+        let (destination, source) = self.two_references()?;
         Ok(Message::ResetConfirm {
             destination,
             source,
