@@ -3,9 +3,12 @@ ghost use Prim.Native.Nat.{ℕ, _+_, _*_, _/_, _%_, _<_, _≤_};
 ghost use mathlib.Core.Path.{_≡_};
 ghost use mathlib.Core.Bool.{true};
 ghost use mathlib.Core.List.{List, [], _∷_, _++_};
-ghost use lib.ListN.{length, drop};
+ghost use lib.ListN.{length, take, drop};
+ghost use Rattle.std.specs.Vec.{made};
+ghost use Rattle.std.specs.declared.result.Result.the-variants.{Ok};
 ghost use Rattle.message.specs.Content as content;
 ghost use Rattle.message.specs.Layout.{layout, laid, reference-octets, written-answer, written-buffer};
+ghost use Rattle.message.specs.Reading.{reading};
 ghost use Rattle.message.specs.Meaning.{meaning, class-number, credit-number, error-number};
 use crate::content::Cause;
 use crate::content::Credit;
@@ -23,6 +26,7 @@ use crate::kind;
 pub fn write(message: Message<'_>, buffer: &mut [u8]) -> Result<usize, Fault>
     ensures answer { λ r. ⌜ r ≡ written-answer (meaning (message .entry)) (now (buffer .entry)) ⌝ }
     ensures after { λ _. ⌜ now (buffer .exit) ≡ written-buffer (meaning (message .entry)) (now (buffer .entry)) ⌝ }
+    ensures reads_back { λ r. ⌜ made r (λ size. reading (take size (now (buffer .exit))) ≡ Ok (meaning (message .entry))) ⌝ }
 {
     if buffer.len() < kind::LARGEST_MESSAGE {
         return Err(Refusal::MemorySize.at(0));

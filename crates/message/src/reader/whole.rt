@@ -1,6 +1,10 @@
 // The eleven messages, each as its layout has it behind the type: fixed fields, pointers, the variable part, the optional part.
 ghost use Prim.Native.Nat.{ℕ, _+_, _<_, _≤_};
 ghost use mathlib.Core.Path.{_≡_};
+ghost use mathlib.Core.Logic.{_↔_};
+ghost use Rattle.std.specs.declared.result.Result.the-variants.{Ok};
+ghost use Rattle.message.specs.Content.{Content};
+ghost use Rattle.message.specs.Layout.{Is-message};
 ghost use Rattle.message.specs.Meaning.{means};
 ghost use Rattle.message.specs.Window.{window, outcome};
 ghost use Rattle.message.specs.Reading as reading;
@@ -17,7 +21,8 @@ use crate::reader::parts::agreed;
 
 // What the octets of a message say, or why they are none.
 pub fn read<'a>(octets: &'a [u8]) -> Result<Message<'a>, Fault>
-    ensures { λ r. ⌜ means r ≡ reading.reading (now (octets .entry)) ⌝ }
+    ensures says { λ r. ⌜ means r ≡ reading.reading (now (octets .entry)) ⌝ }
+    ensures laid_out { λ r. ⌜ ((c : Content) → (means r ≡ Ok c) ↔ Is-message c (now (octets .entry))) ⌝ }
 {
     if octets.len() == 0 || octets.len() > kind::LARGEST_MESSAGE {
         return Err(Refusal::MessageLength.at(0));

@@ -1,11 +1,19 @@
 use borrow.Author.Needs.{needs}
+use mathlib.Core.Path.{_≡_}
+use Rattle.std.specs.declared.result.Result.the-variants.{Err}
+use Rattle.message.specs.Meaning.{means}
 use Rattle.message.specs.Reading.{reading}
+use Rattle.message.proofs.Agree.{agrees}
 use Rattle.message.proofs.reader.whole.read.Needs as need
 
 pub returns-then-octets-eq0 : need.returns-then-octets-eq0
 unfolding reading
-returns-then-octets-eq0 c = search needs
+returns-then-octets-eq0 c =
+    let says : Err (c .at .result) ≡ reading (c .args .octets .now) = search needs in
+    record { says = says; laid-out = agrees (c .args .octets .now) (Err (c .at .result)) says }
 
 pub returns : need.returns
 unfolding reading
-returns c = search needs
+returns c =
+    let says : means (c .message .result) ≡ reading (c .args .octets .now) = search needs in
+    record { says = says; laid-out = agrees (c .args .octets .now) (means (c .message .result)) says }
