@@ -4,3 +4,4 @@ pub mod Meaning
 pub mod Window
 pub mod Reading
 pub mod Layout
+pub mod Examples
