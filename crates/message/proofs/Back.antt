@@ -27,7 +27,6 @@ reference-back v h =
     whole : (v : ℕ) → v ≤ 16777215 → v ≡ v % 256 + 256 * (v / 256 % 256) + 65536 * (v / 65536 % 256)
     whole v h = omega arith
 
-
 -- class and credit, and what O points to
 credit-back : (class credit : ℕ) (between : List ℕ) → class-fits class credit ≡ true →
     (found : Option ℕ) × Points true between found (credit-part class credit (1 + length between) between) × Has-credit class credit found

@@ -84,138 +84,138 @@ module _ (w : Window) (start : w .place ≡ 1) where
   request-read : (source class credit subsystem : ℕ) → Laid-out (content.connection-request source class credit subsystem) (1 ∷ rest w) →
       (v : Window) × (connection-request w ≡ Ok (content.connection-request source class credit subsystem, v))
   request-read source class credit subsystem (src, xs, found, e, is-source, points, some, has) =
-    let front = behind 1 (rest w) (src ++ class ∷ 2 ∷ xs) e in
-    let h = header-takes 6 w _ start front (lit≤ tt) (reference-long source src (class ∷ 2 ∷ xs) 3 is-source (one-more 2 (one-more 1 (points-long true _ found xs points)))) in
-    let range = credit-class class credit found has in
-    let s = reference-takes w source src (class ∷ 2 ∷ xs) is-source front in
-    let c = field-takes (s .0) 2 3 class (2 ∷ xs) (range .0) (range .1) (s .2) in
-    let v = pointer-takes (c .0) 2 xs (c .2) in
-    let opt = optional-from true (2 ∷ 66 ∷ subsystem ∷ []) found xs points in
-    let o = pointer-takes (v .0) (opt .0) (2 ∷ 66 ∷ subsystem ∷ opt .1) (v .2 ∙ opt .2) in
-    let p = points-takes (o .0) (c .0 .place, 2) (further _ _ _ 1 1 (v .3 .1) (o .3 .1)) in
-    let a = address-takes (o .0) subsystem (opt .1) some (o .2) in
-    let f = opt .3 (v .0 .place) (a .0) (a .2) (further _ _ _ 1 3 (o .3 .1) (a .3 .1)) in
-    (f .0, rw (h, s .1, c .1, v .1, o .1, p, a .1, f .1, agreed-takes (s .0 .place) class credit found has) refl)
+      let front = behind 1 (rest w) (src ++ class ∷ 2 ∷ xs) e in
+      let h = header-takes 6 w _ start front (lit≤ tt) (reference-long source src (class ∷ 2 ∷ xs) 3 is-source (one-more 2 (one-more 1 (points-long true _ found xs points)))) in
+      let range = credit-class class credit found has in
+      let s = reference-takes w source src (class ∷ 2 ∷ xs) is-source front in
+      let c = field-takes (s .0) 2 3 class (2 ∷ xs) (range .0) (range .1) (s .2) in
+      let v = pointer-takes (c .0) 2 xs (c .2) in
+      let opt = optional-from true (2 ∷ 66 ∷ subsystem ∷ []) found xs points in
+      let o = pointer-takes (v .0) (opt .0) (2 ∷ 66 ∷ subsystem ∷ opt .1) (v .2 ∙ opt .2) in
+      let p = points-takes (o .0) (c .0 .place, 2) (further _ _ _ 1 1 (v .3 .1) (o .3 .1)) in
+      let a = address-takes (o .0) subsystem (opt .1) some (o .2) in
+      let f = opt .3 (v .0 .place) (a .0) (a .2) (further _ _ _ 1 3 (o .3 .1) (a .3 .1)) in
+      (f .0, rw (h, s .1, c .1, v .1, o .1, p, a .1, f .1, agreed-takes (s .0 .place) class credit found has) refl)
 
   confirm-read : (destination source class credit : ℕ) → Laid-out (content.connection-confirm destination source class credit) (2 ∷ rest w) →
       (v : Window) × (connection-confirm w ≡ Ok (content.connection-confirm destination source class credit, v))
   confirm-read destination source class credit (dst, src, xs, found, e, is-destination, is-source, points, has) =
-    let front = behind 2 (rest w) (dst ++ (src ++ class ∷ xs)) e in
-    let h = header-takes 8 w _ start front (lit≤ tt) (reference-long destination dst _ 5 is-destination (reference-long source src _ 2 is-source (one-more 1 (points-long true _ found xs points)))) in
-    let range = credit-class class credit found has in
-    let d = reference-takes w destination dst _ is-destination front in
-    let s = reference-takes (d .0) source src _ is-source (d .2) in
-    let c = field-takes (s .0) 2 3 class xs (range .0) (range .1) (s .2) in
-    let opt = optional-from true [] found xs points in
-    let o = pointer-takes (c .0) (opt .0) (opt .1) (c .2 ∙ opt .2) in
-    let f = opt .3 (c .0 .place) (o .0) (o .2) (sym (o .3 .1)) in
-    (f .0, rw (h, d .1, s .1, c .1, o .1, f .1, agreed-takes (s .0 .place) class credit found has) refl)
+      let front = behind 2 (rest w) (dst ++ (src ++ class ∷ xs)) e in
+      let h = header-takes 8 w _ start front (lit≤ tt) (reference-long destination dst _ 5 is-destination (reference-long source src _ 2 is-source (one-more 1 (points-long true _ found xs points)))) in
+      let range = credit-class class credit found has in
+      let d = reference-takes w destination dst _ is-destination front in
+      let s = reference-takes (d .0) source src _ is-source (d .2) in
+      let c = field-takes (s .0) 2 3 class xs (range .0) (range .1) (s .2) in
+      let opt = optional-from true [] found xs points in
+      let o = pointer-takes (c .0) (opt .0) (opt .1) (c .2 ∙ opt .2) in
+      let f = opt .3 (c .0 .place) (o .0) (o .2) (sym (o .3 .1)) in
+      (f .0, rw (h, d .1, s .1, c .1, o .1, f .1, agreed-takes (s .0 .place) class credit found has) refl)
 
   refused-read : (destination cause : ℕ) → Laid-out (content.connection-refused destination cause) (3 ∷ rest w) →
       (v : Window) × (connection-refused w ≡ Ok (content.connection-refused destination cause, v))
   refused-read destination cause (dst, xs, found, e, is-destination, listed, points) =
-    let front = behind 3 (rest w) (dst ++ cause ∷ xs) e in
-    let h = header-takes 5 w _ start front (lit≤ tt) (reference-long destination dst _ 2 is-destination (one-more 1 (points-long false _ found xs points))) in
-    let d = reference-takes w destination dst _ is-destination front in
-    let c = field-takes (d .0) 0 15 cause xs zero-le listed (d .2) in
-    let opt = optional-from false [] found xs points in
-    let o = pointer-takes (c .0) (opt .0) (opt .1) (c .2 ∙ opt .2) in
-    let f = opt .3 (c .0 .place) (o .0) (o .2) (sym (o .3 .1)) in
-    (f .0, rw (h, d .1, c .1, o .1, f .1) refl)
+      let front = behind 3 (rest w) (dst ++ cause ∷ xs) e in
+      let h = header-takes 5 w _ start front (lit≤ tt) (reference-long destination dst _ 2 is-destination (one-more 1 (points-long false _ found xs points))) in
+      let d = reference-takes w destination dst _ is-destination front in
+      let c = field-takes (d .0) 0 15 cause xs zero-le listed (d .2) in
+      let opt = optional-from false [] found xs points in
+      let o = pointer-takes (c .0) (opt .0) (opt .1) (c .2 ∙ opt .2) in
+      let f = opt .3 (c .0 .place) (o .0) (o .2) (sym (o .3 .1)) in
+      (f .0, rw (h, d .1, c .1, o .1, f .1) refl)
 
   released-read : (destination source cause : ℕ) → Laid-out (content.released destination source cause) (4 ∷ rest w) →
       (v : Window) × (released w ≡ Ok (content.released destination source cause, v))
   released-read destination source cause (dst, src, xs, found, e, is-destination, is-source, listed, points) =
-    let front = behind 4 (rest w) (dst ++ (src ++ cause ∷ xs)) e in
-    let h = header-takes 8 w _ start front (lit≤ tt) (reference-long destination dst _ 5 is-destination (reference-long source src _ 2 is-source (one-more 1 (points-long false _ found xs points)))) in
-    let d = reference-takes w destination dst _ is-destination front in
-    let s = reference-takes (d .0) source src _ is-source (d .2) in
-    let c = field-takes (s .0) 0 15 cause xs zero-le listed (s .2) in
-    let opt = optional-from false [] found xs points in
-    let o = pointer-takes (c .0) (opt .0) (opt .1) (c .2 ∙ opt .2) in
-    let f = opt .3 (c .0 .place) (o .0) (o .2) (sym (o .3 .1)) in
-    (f .0, rw (h, d .1, s .1, c .1, o .1, f .1) refl)
+      let front = behind 4 (rest w) (dst ++ (src ++ cause ∷ xs)) e in
+      let h = header-takes 8 w _ start front (lit≤ tt) (reference-long destination dst _ 5 is-destination (reference-long source src _ 2 is-source (one-more 1 (points-long false _ found xs points)))) in
+      let d = reference-takes w destination dst _ is-destination front in
+      let s = reference-takes (d .0) source src _ is-source (d .2) in
+      let c = field-takes (s .0) 0 15 cause xs zero-le listed (s .2) in
+      let opt = optional-from false [] found xs points in
+      let o = pointer-takes (c .0) (opt .0) (opt .1) (c .2 ∙ opt .2) in
+      let f = opt .3 (c .0 .place) (o .0) (o .2) (sym (o .3 .1)) in
+      (f .0, rw (h, d .1, s .1, c .1, o .1, f .1) refl)
 
   -- RLC and RSC
   references-read : (type destination source : ℕ) (dst src : List ℕ) → type ∷ rest w ≡ type ∷ dst ++ src → Is-reference destination dst → Is-reference source src →
       (v : Window) × (two-references w ≡ Ok ((destination, source), v))
   unfolding two-references
   references-read type destination source dst src e is-destination is-source =
-    let front = behind type (rest w) (dst ++ src) e in
-    let longer = subst (λ (xs : List ℕ). 3 ≤ length xs) (append-nil src) (reference-long source src [] 0 is-source (lit≤ tt)) in
-    let h = header-takes 6 w _ start front (lit≤ tt) (reference-long destination dst src 3 is-destination longer) in
-    let d = reference-takes w destination dst src is-destination front in
-    let s = reference-takes (d .0) source src [] is-source (d .2 ∙ sym (append-nil src)) in
-    let n = ends-takes VariablePart (s .0) (s .2) in
-    (s .0, rw (h, d .1, s .1, n) refl)
+      let front = behind type (rest w) (dst ++ src) e in
+      let longer = subst (λ (xs : List ℕ). 3 ≤ length xs) (append-nil src) (reference-long source src [] 0 is-source (lit≤ tt)) in
+      let h = header-takes 6 w _ start front (lit≤ tt) (reference-long destination dst src 3 is-destination longer) in
+      let d = reference-takes w destination dst src is-destination front in
+      let s = reference-takes (d .0) source src [] is-source (d .2 ∙ sym (append-nil src)) in
+      let n = ends-takes VariablePart (s .0) (s .2) in
+      (s .0, rw (h, d .1, s .1, n) refl)
 
   reset-read : (destination source cause : ℕ) → Laid-out (content.reset-request destination source cause) (13 ∷ rest w) →
       (v : Window) × (reset-request w ≡ Ok (content.reset-request destination source cause, v))
   reset-read destination source cause (dst, src, e, is-destination, is-source, listed) =
-    let front = behind 13 (rest w) (dst ++ (src ++ cause ∷ [])) e in
-    let h = header-takes 7 w _ start front (lit≤ tt) (reference-long destination dst _ 4 is-destination (reference-long source src _ 1 is-source (lit≤ tt))) in
-    let d = reference-takes w destination dst _ is-destination front in
-    let s = reference-takes (d .0) source src _ is-source (d .2) in
-    let c = field-takes (s .0) 0 15 cause [] zero-le listed (s .2) in
-    let n = ends-takes VariablePart (c .0) (c .2) in
-    (c .0, rw (h, d .1, s .1, c .1, n) refl)
+      let front = behind 13 (rest w) (dst ++ (src ++ cause ∷ [])) e in
+      let h = header-takes 7 w _ start front (lit≤ tt) (reference-long destination dst _ 4 is-destination (reference-long source src _ 1 is-source (lit≤ tt))) in
+      let d = reference-takes w destination dst _ is-destination front in
+      let s = reference-takes (d .0) source src _ is-source (d .2) in
+      let c = field-takes (s .0) 0 15 cause [] zero-le listed (s .2) in
+      let n = ends-takes VariablePart (c .0) (c .2) in
+      (c .0, rw (h, d .1, s .1, c .1, n) refl)
 
   error-read : (destination cause : ℕ) → Laid-out (content.error destination cause) (15 ∷ rest w) → (v : Window) × (error w ≡ Ok (content.error destination cause, v))
   error-read destination cause (dst, e, is-destination, listed) =
-    let front = behind 15 (rest w) (dst ++ cause ∷ []) e in
-    let h = header-takes 4 w _ start front (lit≤ tt) (reference-long destination dst _ 1 is-destination (lit≤ tt)) in
-    let d = reference-takes w destination dst _ is-destination front in
-    let c = field-takes (d .0) 0 4 cause [] zero-le listed (d .2) in
-    let n = ends-takes VariablePart (c .0) (c .2) in
-    (c .0, rw (h, d .1, c .1, n) refl)
+      let front = behind 15 (rest w) (dst ++ cause ∷ []) e in
+      let h = header-takes 4 w _ start front (lit≤ tt) (reference-long destination dst _ 1 is-destination (lit≤ tt)) in
+      let d = reference-takes w destination dst _ is-destination front in
+      let c = field-takes (d .0) 0 4 cause [] zero-le listed (d .2) in
+      let n = ends-takes VariablePart (c .0) (c .2) in
+      (c .0, rw (h, d .1, c .1, n) refl)
 
   acknowledgement-read : (destination receive credit : ℕ) → Laid-out (content.data-acknowledgement destination receive credit) (8 ∷ rest w) →
       (v : Window) × (data-acknowledgement w ≡ Ok (content.data-acknowledgement destination receive credit, v))
   acknowledgement-read destination receive credit (dst, e, is-destination, low, high) =
-    let front = behind 8 (rest w) (dst ++ (receive * 2) ∷ credit ∷ []) e in
-    let h = header-takes 5 w _ start front (lit≤ tt) (reference-long destination dst _ 2 is-destination (lit≤ tt)) in
-    let d = reference-takes w destination dst _ is-destination front in
-    let r = sequence-takes (d .0) receive _ (d .2) in
-    let c = field-takes (r .0) 1 127 credit [] low high (r .2) in
-    let n = ends-takes VariablePart (c .0) (c .2) in
-    (c .0, rw (h, d .1, r .1, c .1, n) refl)
+      let front = behind 8 (rest w) (dst ++ (receive * 2) ∷ credit ∷ []) e in
+      let h = header-takes 5 w _ start front (lit≤ tt) (reference-long destination dst _ 2 is-destination (lit≤ tt)) in
+      let d = reference-takes w destination dst _ is-destination front in
+      let r = sequence-takes (d .0) receive _ (d .2) in
+      let c = field-takes (r .0) 1 127 credit [] low high (r .2) in
+      let n = ends-takes VariablePart (c .0) (c .2) in
+      (c .0, rw (h, d .1, r .1, c .1, n) refl)
 
   form-1-read : (destination : ℕ) (more : Bool) (segment : List ℕ) → Laid-out (content.data-form-1 destination more segment) (6 ∷ rest w) →
       (v : Window) × (data-form-1 w ≡ Ok (content.data-form-1 destination more segment, v))
   unfolding variable
   form-1-read destination more segment (dst, e, is-destination, some) =
-    let front = behind 6 (rest w) (dst ++ more-octet more ∷ 1 ∷ length segment ∷ segment) e in
-    let h = header-takes 5 w _ start front (lit≤ tt) (reference-long destination dst _ 2 is-destination (one-more 1 (one-more 0 zero-le))) in
-    let d = reference-takes w destination dst _ is-destination front in
-    let m = field-takes (d .0) 0 1 (more-octet more) _ zero-le (flag-low more) (d .2) in
-    let v = pointer-takes (m .0) 1 _ (m .2) in
-    let p = points-takes (v .0) (m .0 .place, 1) (sym (v .3 .1)) in
-    let x = counted-takes VariablePart (v .0) (v .0 .place) segment [] some (v .2 ∙ ap (λ xs. length segment ∷ xs) (sym (append-nil segment))) in
-    let n = ends-takes VariablePart (x .0) (x .2) in
-    (x .0, rw (h, d .1, m .1, v .1, p, x .1, n, flag-read more) refl)
+      let front = behind 6 (rest w) (dst ++ more-octet more ∷ 1 ∷ length segment ∷ segment) e in
+      let h = header-takes 5 w _ start front (lit≤ tt) (reference-long destination dst _ 2 is-destination (one-more 1 (one-more 0 zero-le))) in
+      let d = reference-takes w destination dst _ is-destination front in
+      let m = field-takes (d .0) 0 1 (more-octet more) _ zero-le (flag-low more) (d .2) in
+      let v = pointer-takes (m .0) 1 _ (m .2) in
+      let p = points-takes (v .0) (m .0 .place, 1) (sym (v .3 .1)) in
+      let x = counted-takes VariablePart (v .0) (v .0 .place) segment [] some (v .2 ∙ ap (λ xs. length segment ∷ xs) (sym (append-nil segment))) in
+      let n = ends-takes VariablePart (x .0) (x .2) in
+      (x .0, rw (h, d .1, m .1, v .1, p, x .1, n, flag-read more) refl)
 
   form-2-read : (destination send receive : ℕ) (more : Bool) (segment : List ℕ) → Laid-out (content.data-form-2 destination send receive more segment) (7 ∷ rest w) →
       (v : Window) × (data-form-2 w ≡ Ok (content.data-form-2 destination send receive more segment, v))
   unfolding variable
   form-2-read destination send receive more segment (dst, e, is-destination, some) =
-    let front = behind 7 (rest w) (dst ++ (send * 2) ∷ (receive * 2 + more-octet more) ∷ 1 ∷ length segment ∷ segment) e in
-    let h = header-takes 6 w _ start front (lit≤ tt) (reference-long destination dst _ 3 is-destination (one-more 2 (one-more 1 (one-more 0 zero-le)))) in
-    let d = reference-takes w destination dst _ is-destination front in
-    let s = sequence-takes (d .0) send _ (d .2) in
-    let r = octet-takes CutShort (s .0) (receive * 2 + more-octet more) _ (s .2) in
-    let v = pointer-takes (r .0) 1 _ (r .2) in
-    let p = points-takes (v .0) (r .0 .place, 1) (sym (v .3 .1)) in
-    let x = counted-takes VariablePart (v .0) (v .0 .place) segment [] some (v .2 ∙ ap (λ xs. length segment ∷ xs) (sym (append-nil segment))) in
-    let n = ends-takes VariablePart (x .0) (x .2) in
-    (x .0, rw (h, d .1, s .1, r .1, v .1, p, x .1, n, half-read receive more, bit-read receive more) refl)
+      let front = behind 7 (rest w) (dst ++ (send * 2) ∷ (receive * 2 + more-octet more) ∷ 1 ∷ length segment ∷ segment) e in
+      let h = header-takes 6 w _ start front (lit≤ tt) (reference-long destination dst _ 3 is-destination (one-more 2 (one-more 1 (one-more 0 zero-le)))) in
+      let d = reference-takes w destination dst _ is-destination front in
+      let s = sequence-takes (d .0) send _ (d .2) in
+      let r = octet-takes CutShort (s .0) (receive * 2 + more-octet more) _ (s .2) in
+      let v = pointer-takes (r .0) 1 _ (r .2) in
+      let p = points-takes (v .0) (r .0 .place, 1) (sym (v .3 .1)) in
+      let x = counted-takes VariablePart (v .0) (v .0 .place) segment [] some (v .2 ∙ ap (λ xs. length segment ∷ xs) (sym (append-nil segment))) in
+      let n = ends-takes VariablePart (x .0) (x .2) in
+      (x .0, rw (h, d .1, s .1, r .1, v .1, p, x .1, n, half-read receive more, bit-read receive more) refl)
 
   -- by the type
   one-type : (c : Content) (type k : ℕ) (left : List ℕ) → type ∷ rest w ≡ k ∷ left → (Laid-out c (k ∷ rest w) → (v : Window) × (message-of k w ≡ Ok (c, v))) → Laid-out c (type ∷ rest w) →
       (v : Window) × (message-of type w ≡ Ok (c, v))
   one-type c type k left e read l =
-    let is = ahead type k (rest w) left e in
-    let g = read (subst (λ (x : ℕ). Laid-out c (x ∷ rest w)) is l) in
-    (g .0, subst (λ (x : ℕ). message-of x w ≡ Ok (c, g .0)) (sym is) (g .1))
+      let is = ahead type k (rest w) left e in
+      let g = read (subst (λ (x : ℕ). Laid-out c (x ∷ rest w)) is l) in
+      (g .0, subst (λ (x : ℕ). message-of x w ≡ Ok (c, g .0)) (sym is) (g .1))
 
   message-read : (c : Content) (type : ℕ) → Laid-out c (type ∷ rest w) → (v : Window) × (message-of type w ≡ Ok (c, v))
   message-read (content.connection-request source class credit subsystem) type l = one-type _ type 1 _ (l .3) (request-read source class credit subsystem) l
@@ -223,13 +223,13 @@ module _ (w : Window) (start : w .place ≡ 1) where
   message-read (content.connection-refused destination cause) type l = one-type _ type 3 _ (l .3) (refused-read destination cause) l
   message-read (content.released destination source cause) type l = one-type _ type 4 _ (l .4) (released-read destination source cause) l
   message-read (content.release-complete destination source) type l =
-    one-type _ type 5 _ (l .2) (λ (d, s, e, is-d, is-s). let g = references-read 5 destination source d s e is-d is-s in (g .0, rw (g .1) refl)) l
+      one-type _ type 5 _ (l .2) (λ (d, s, e, is-d, is-s). let g = references-read 5 destination source d s e is-d is-s in (g .0, rw (g .1) refl)) l
   message-read (content.data-form-1 destination more segment) type l = one-type _ type 6 _ (l .1) (form-1-read destination more segment) l
   message-read (content.data-form-2 destination send receive more segment) type l = one-type _ type 7 _ (l .1) (form-2-read destination send receive more segment) l
   message-read (content.data-acknowledgement destination receive credit) type l = one-type _ type 8 _ (l .1) (acknowledgement-read destination receive credit) l
   message-read (content.reset-request destination source cause) type l = one-type _ type 13 _ (l .2) (reset-read destination source cause) l
   message-read (content.reset-confirm destination source) type l =
-    one-type _ type 14 _ (l .2) (λ (d, s, e, is-d, is-s). let g = references-read 14 destination source d s e is-d is-s in (g .0, rw (g .1) refl)) l
+      one-type _ type 14 _ (l .2) (λ (d, s, e, is-d, is-s). let g = references-read 14 destination source d s e is-d is-s in (g .0, rw (g .1) refl)) l
   message-read (content.error destination cause) type l = one-type _ type 15 _ (l .1) (error-read destination cause) l
 
 bare : {x : ℕ} {xs : List ℕ} → [] ≡ x ∷ xs → ⊥

@@ -54,8 +54,8 @@ parameter-front true found named name part known e = at found (eqb name 9) refl 
     at found false n h = inr (let k = rw n at h in cc, λ t m. eqb-false name 9 n m)
     at (Some x) true n h = absurd (let k = rw n at h in let z : _≡_ {A = ℕ} 0 1 = cc in omega arith)
     at None true n h = let k = rw n at h in
-      let m : (length part ≡ 1) × (known ≡ Some (getD part 0 0)) = (grind (arith, tells), grind (arith, tells)) in
-      inl (refl, eqb-true name 9 n, refl, m .0, m .1)
+        let m : (length part ≡ 1) × (known ≡ Some (getD part 0 0)) = (grind (arith, tells), grind (arith, tells)) in
+        inl (refl, eqb-true name 9 n, refl, m .0, m .1)
 
 -- what is read as an optional part is one
 pub parameters-front : (depth : ℕ) (due : Bool) (found : Option ℕ) (w : Window) (p : Option ℕ × Window) → parameters depth due found w ≡ Ok p →
@@ -69,34 +69,38 @@ parameters-front (suc depth) due found w p e =
   where
     own-part : (known : Option ℕ) (part : List ℕ) (name : ℕ) (v u : Window) → (name ≡ 0 → ⊥) → rest w ≡ name ∷ rest v → rest v ≡ length part ∷ part ++ rest u → 1 ≤ length part →
         Parameter due found name part known → (own : Option ℕ) × Is-optional due own (rest u) × Joined known own (p .0) → (own : Option ℕ) × Is-optional due own (rest w) × Joined found own (p .0)
-    own-part known part name v u other f g some (inr (same, free)) (own, is, joined) =
-      (own, subst (λ (xs : List ℕ). Is-optional due own xs) (sym (f ∙ ap (λ xs. name ∷ xs) g)) (with-other part other free some is),
-        subst (λ (k : Option ℕ). Joined k own (p .0)) same joined)
+    own-part known part name v u other f g some (inr (same, free)) (own, is, joined) = (
+      own,
+      subst (λ (xs : List ℕ). Is-optional due own xs) (sym (f ∙ ap (λ xs. name ∷ xs) g)) (with-other part other free some is),
+      subst (λ (k : Option ℕ). Joined k own (p .0)) same joined,
+    )
     own-part known part name v u other f g some (inl (is-due, nine, none, single, credit)) (own, is, joined) =
-      let both : (own ≡ None) × (p .0 ≡ Some (getD part 0 0)) = subst (λ (k : Option ℕ). Joined k own (p .0)) credit joined in
-      let whole : rest w ≡ 9 ∷ 1 ∷ getD part 0 0 ∷ rest u = f ∙ rw (nine, g, single) (ap (λ xs. 9 ∷ 1 ∷ xs ++ rest u) (one part single)) in
-      (Some (getD part 0 0), subst (λ (xs : List ℕ). Is-optional due (Some (getD part 0 0)) xs) (sym whole) (with-credit is-due (subst (λ (k : Option ℕ). Is-optional due k (rest u)) (both .0) is)),
-        subst (λ (k : Option ℕ). Joined k (Some (getD part 0 0)) (p .0)) (sym none) (both .1))
+        let both : (own ≡ None) × (p .0 ≡ Some (getD part 0 0)) = subst (λ (k : Option ℕ). Joined k own (p .0)) credit joined in
+        let whole : rest w ≡ 9 ∷ 1 ∷ getD part 0 0 ∷ rest u = f ∙ rw (nine, g, single) (ap (λ xs. 9 ∷ 1 ∷ xs ++ rest u) (one part single)) in (
+          Some (getD part 0 0),
+          subst (λ (xs : List ℕ). Is-optional due (Some (getD part 0 0)) xs) (sym whole) (with-credit is-due (subst (λ (k : Option ℕ). Is-optional due k (rest u)) (both .0) is)),
+          subst (λ (k : Option ℕ). Joined k (Some (getD part 0 0)) (p .0)) (sym none) (both .1),
+        )
 
     named : (a : ℕ × Window) → rest w ≡ a .0 ∷ rest (a .1) → (b : Bool) → eqb (a .0) 0 ≡ b →
         cond (eqb (a .0) 0) (then (ends OptionalPart (a .1)) (λ u. Ok (found, u .1))) (then (counted OptionalPart (w .place) (a .1)) (λ q. then (lift (credit-after due found (w .place) (a .0) (q .0)) (q .1)) (λ k. parameters depth due (k .0) (k .1)))) ≡ Ok p →
         ((known : Option ℕ) (v : Window) → parameters depth due known v ≡ Ok p → (own : Option ℕ) × Is-optional due own (rest v) × Joined known own (p .0)) →
         (own : Option ℕ) × Is-optional due own (rest w) × Joined found own (p .0)
     named a f true n h deeper =
-      let k : then (ends OptionalPart (a .1)) (λ u. Ok (found, u .1)) ≡ Ok p = rw n at h in
-      let d = first (ends OptionalPart (a .1)) _ p k in
-      let g = ends-front OptionalPart (a .1) (d .0) (d .1) in
-      let whole : rest w ≡ 0 ∷ [] = f ∙ rw (eqb-true (a .0) 0 n, g .0) refl in
-      let same : p .0 ≡ found = let t = d .2 in cc in
-      (None, subst (λ (xs : List ℕ). Is-optional due None xs) (sym whole) ended, subst (λ (x : Option ℕ). Joined found None x) (sym same) (none-joined found))
+        let k : then (ends OptionalPart (a .1)) (λ u. Ok (found, u .1)) ≡ Ok p = rw n at h in
+        let d = first (ends OptionalPart (a .1)) _ p k in
+        let g = ends-front OptionalPart (a .1) (d .0) (d .1) in
+        let whole : rest w ≡ 0 ∷ [] = f ∙ rw (eqb-true (a .0) 0 n, g .0) refl in
+        let same : p .0 ≡ found = let t = d .2 in cc in
+        (None, subst (λ (xs : List ℕ). Is-optional due None xs) (sym whole) ended, subst (λ (x : Option ℕ). Joined found None x) (sym same) (none-joined found))
     named a f false n h deeper =
-      let k : then (counted OptionalPart (w .place) (a .1)) (λ q. then (lift (credit-after due found (w .place) (a .0) (q .0)) (q .1)) (λ k. parameters depth due (k .0) (k .1))) ≡ Ok p = rw n at h in
-      let d = first (counted OptionalPart (w .place) (a .1)) _ p k in
-      let g = counted-front OptionalPart (a .1) (w .place) (d .0) (d .1) in
-      let c = first (lift (credit-after due found (w .place) (a .0) (d .0 .0)) (d .0 .1)) _ p (d .2) in
-      let j = first (credit-after due found (w .place) (a .0) (d .0 .0)) _ (c .0) (c .1) in
-      let t : c .0 ≡ (j .0, d .0 .1) = let x = j .2 in cc in
-      own-part (j .0) (d .0 .0) (a .0) (a .1) (d .0 .1) (λ z. eqb-false (a .0) 0 n z) f (g .0) (g .1)
+        let k : then (counted OptionalPart (w .place) (a .1)) (λ q. then (lift (credit-after due found (w .place) (a .0) (q .0)) (q .1)) (λ k. parameters depth due (k .0) (k .1))) ≡ Ok p = rw n at h in
+        let d = first (counted OptionalPart (w .place) (a .1)) _ p k in
+        let g = counted-front OptionalPart (a .1) (w .place) (d .0) (d .1) in
+        let c = first (lift (credit-after due found (w .place) (a .0) (d .0 .0)) (d .0 .1)) _ p (d .2) in
+        let j = first (credit-after due found (w .place) (a .0) (d .0 .0)) _ (c .0) (c .1) in
+        let t : c .0 ≡ (j .0, d .0 .1) = let x = j .2 in cc in
+        own-part (j .0) (d .0 .0) (a .0) (a .1) (d .0 .1) (λ z. eqb-false (a .0) 0 n z) f (g .0) (g .1)
         (parameter-front due found (w .place) (a .0) (d .0 .0) (j .0) (j .1)) (deeper (j .0) (d .0 .1) (rw t at (c .2)))
 
 -- an optional part is read as what it is
@@ -134,16 +138,16 @@ optional-front due o w p e = by (eqb (o .1) 0) refl
   where
     by : (b : Bool) → eqb (o .1) 0 ≡ b → ((o .1 ≡ 0) × (rest w ≡ []) × (p .0 ≡ None)) ⊎ ((o .0 + o .1 ≡ w .place) × Is-optional due (p .0) (rest w))
     by true n =
-      let h : then (ends VariablePart w) (λ u. Ok (None, u .1)) ≡ Ok p = rw n at e in
-      let a = first (ends VariablePart w) _ p h in
-      let f = ends-front VariablePart w (a .0) (a .1) in
-      inl (eqb-true (o .1) 0 n, f .0, let t = a .2 in cc)
+        let h : then (ends VariablePart w) (λ u. Ok (None, u .1)) ≡ Ok p = rw n at e in
+        let a = first (ends VariablePart w) _ p h in
+        let f = ends-front VariablePart w (a .0) (a .1) in
+        inl (eqb-true (o .1) 0 n, f .0, let t = a .2 in cc)
     by false n =
-      let h : then (points-here o w) (λ u. any-parameters due None (u .1)) ≡ Ok p = rw n at e in
-      let a = first (points-here o w) _ p h in
-      let f = points-front w o (a .0) (a .1) in
-      let g = parameters-front (suc (length (a .0 .1 .octets))) due None (a .0 .1) p (a .2) in
-      inr (f .1, subst (λ (v : Window). Is-optional due (p .0) (rest v)) (f .0) (subst (λ (k : Option ℕ). Is-optional due k (rest (a .0 .1))) (sym (g .2)) (g .1)))
+        let h : then (points-here o w) (λ u. any-parameters due None (u .1)) ≡ Ok p = rw n at e in
+        let a = first (points-here o w) _ p h in
+        let f = points-front w o (a .0) (a .1) in
+        let g = parameters-front (suc (length (a .0 .1 .octets))) due None (a .0 .1) p (a .2) in
+        inr (f .1, subst (λ (v : Window). Is-optional due (p .0) (rest v)) (f .0) (subst (λ (k : Option ℕ). Is-optional due k (rest (a .0 .1))) (sym (g .2)) (g .1)))
 
 pub optional-none : (due : Bool) (o : ℕ × ℕ) (w : Window) → o .1 ≡ 0 → rest w ≡ [] → optional-part due o w ≡ Ok (None, w)
 unfolding optional-part
@@ -164,16 +168,16 @@ agreed-front place class found both l h e = by found (eqb class 2) refl e
   where
     by : (found : Option ℕ) (b : Bool) → eqb class 2 ≡ b → agreed place class found ≡ Ok both → (both .0 ≡ class) × Has-credit class (both .1) found
     by None true n e =
-      let k : Ok (2, 0) ≡ Ok both = rw n at e in
-      let t : both ≡ (2, 0) = cc in
-      (ap (λ q. q .0) t ∙ sym (eqb-true class 2 n), inl (eqb-true class 2 n, ap (λ q. q .1) t, refl))
+        let k : Ok (2, 0) ≡ Ok both = rw n at e in
+        let t : both ≡ (2, 0) = cc in
+        (ap (λ q. q .0) t ∙ sym (eqb-true class 2 n), inl (eqb-true class 2 n, ap (λ q. q .1) t, refl))
     by (Some x) true n e = absurd (let k = rw n at e in let z : _≡_ {A = ℕ} 0 1 = cc in omega arith)
     by None false n e = absurd (let k = rw n at e in let z : _≡_ {A = ℕ} 0 1 = cc in omega arith)
     by (Some x) false n e =
-      let k = rw n at e in
-      let t : (both ≡ (3, x)) × (1 ≤ x) × (x ≤ 127) = (grind (arith, tells), grind (arith, tells), grind (arith, tells)) in
-      let three : class ≡ 3 = omega (arith, eqb-false class 2 n) in
-      (ap (λ q. q .0) (t .0) ∙ sym three, inr (three, ap (λ q. Some (q .1)) (sym (t .0)), omega (arith, ap (λ q. q .1) (t .0), t .1), omega (arith, ap (λ q. q .1) (t .0), t .2)))
+        let k = rw n at e in
+        let t : (both ≡ (3, x)) × (1 ≤ x) × (x ≤ 127) = (grind (arith, tells), grind (arith, tells), grind (arith, tells)) in
+        let three : class ≡ 3 = omega (arith, eqb-false class 2 n) in
+        (ap (λ q. q .0) (t .0) ∙ sym three, inr (three, ap (λ q. Some (q .1)) (sym (t .0)), omega (arith, ap (λ q. q .1) (t .0), t .1), omega (arith, ap (λ q. q .1) (t .0), t .2)))
 
 pub agreed-takes : (place class credit : ℕ) (found : Option ℕ) → Has-credit class credit found → agreed place class found ≡ Ok (class, credit)
 unfolding agreed

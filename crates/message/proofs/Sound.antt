@@ -61,101 +61,105 @@ segment-laid : {B : Type 0} (w : Window) (next : List ℕ → Window → Result 
     (x : List ℕ) × (u : Window) × (next x u ≡ Ok b) × (rest w ≡ 1 ∷ length x ∷ x) × (1 ≤ length x)
 unfolding variable
 segment-laid w next b e =
-  let v = first (pointer w) _ b e in
-  let h = first (points-here (v .0 .0) (v .0 .1)) _ b (v .2) in
-  let x = first (counted VariablePart (h .0 .1 .place) (h .0 .1)) _ b (h .2) in
-  let n = first (ends VariablePart (x .0 .1)) _ b (x .2) in
-  let fv = pointer-front w (v .0) (v .1) in
-  let fh = points-front (v .0 .1) (v .0 .0) (h .0) (h .1) in
-  let fx = counted-front VariablePart (h .0 .1) (h .0 .1 .place) (x .0) (x .1) in
-  let fn = ends-front VariablePart (x .0 .1) (n .0) (n .1) in
-  let one : v .0 .0 .1 ≡ 1 = distance (v .0 .0 .0) (v .0 .0 .1) (w .place) (v .0 .1 .place) 1 (fv .1) (fh .1) (fv .2 .1) in
-  let whole : rest w ≡ 1 ∷ length (x .0 .0) ∷ x .0 .0 ++ [] = 
+    let v = first (pointer w) _ b e in
+    let h = first (points-here (v .0 .0) (v .0 .1)) _ b (v .2) in
+    let x = first (counted VariablePart (h .0 .1 .place) (h .0 .1)) _ b (h .2) in
+    let n = first (ends VariablePart (x .0 .1)) _ b (x .2) in
+    let fv = pointer-front w (v .0) (v .1) in
+    let fh = points-front (v .0 .1) (v .0 .0) (h .0) (h .1) in
+    let fx = counted-front VariablePart (h .0 .1) (h .0 .1 .place) (x .0) (x .1) in
+    let fn = ends-front VariablePart (x .0 .1) (n .0) (n .1) in
+    let one : v .0 .0 .1 ≡ 1 = distance (v .0 .0 .0) (v .0 .0 .1) (w .place) (v .0 .1 .place) 1 (fv .1) (fh .1) (fv .2 .1) in
+    let whole : rest w ≡ 1 ∷ length (x .0 .0) ∷ x .0 .0 ++ [] =
     fv .0 ∙ ap (λ y. y ∷ rest (v .0 .1)) one ∙ ap (λ xs. 1 ∷ xs) (sym (ap rest (fh .0)) ∙ fx .0 ∙ ap (λ xs. length (x .0 .0) ∷ x .0 .0 ++ xs) (fn .0)) in
-  (x .0 .0, n .0 .1, n .2, whole ∙ ap (λ xs. 1 ∷ length (x .0 .0) ∷ xs) (append-nil (x .0 .0)), fx .1)
+    (x .0 .0, n .0 .1, n .2, whole ∙ ap (λ xs. 1 ∷ length (x .0 .0) ∷ xs) (append-nil (x .0 .0)), fx .1)
 
 module _ (w : Window) (p : Content × Window) where
   request-laid : connection-request w ≡ Ok p → Laid-out (p .0) (1 ∷ rest w)
   request-laid e =
-    let s = first (reference w) _ p (header-passed 7 w _ p e) in
-    let c = first (field 2 3 (s .0 .1)) _ p (s .2) in
-    let v = first (pointer (c .0 .1)) _ p (c .2) in
-    let o = first (pointer (v .0 .1)) _ p (v .2) in
-    let h = first (points-here (v .0 .0) (o .0 .1)) _ p (o .2) in
-    let a = first (called-address (h .0 .1)) _ p (h .2) in
-    let f = first (optional-part true (o .0 .0) (a .0 .1)) _ p (a .2) in
-    let g = first (lift (agreed (s .0 .1 .place) (c .0 .0) (f .0 .0)) (f .0 .1)) _ p (f .2) in
-    let fs = reference-front w (s .0) (s .1) in
-    let fc = field-front (s .0 .1) 2 3 (c .0) (c .1) in
-    let fv = pointer-front (c .0 .1) (v .0) (v .1) in
-    let fo = pointer-front (v .0 .1) (o .0) (o .1) in
-    let fh = points-front (o .0 .1) (v .0 .0) (h .0) (h .1) in
-    let fa = address-front (h .0 .1) (a .0) (a .1) in
-    let fg = agreed-front (s .0 .1 .place) (c .0 .0) (f .0 .0) (g .0 .0) (fc .1) (fc .2) (lift-value _ (f .0 .1) (g .0) (g .1)) in
-    let two : v .0 .0 .1 ≡ 2 = distance (v .0 .0 .0) (v .0 .0 .1) (c .0 .1 .place) (o .0 .1 .place) 2 (fv .1) (fh .1) (further _ _ _ 1 1 (fv .2 .1) (fo .2 .1)) in
-    let front : rest (v .0 .1) ≡ o .0 .0 .1 ∷ 2 ∷ 66 ∷ a .0 .0 ∷ rest (a .0 .1) = fo .0 ∙ ap (λ xs. o .0 .0 .1 ∷ xs) (sym (ap rest (fh .0)) ∙ fa .0) in
-    let at : o .0 .0 .0 + 4 ≡ a .0 .1 .place = ap (λ x. x + 4) (fo .1) ∙ sym (further _ _ _ 1 3 (fo .2 .1) (fa .2 .1 ∙ ap (λ x. x .place + 3) (fh .0))) in
-    let points = points-laid true (2 ∷ 66 ∷ a .0 .0 ∷ []) (o .0 .0) (v .0 .1) (a .0 .1) (f .0) front at (f .1) in
-    let whole : 1 ∷ rest w ≡ 1 ∷ fs .0 ++ g .0 .0 .0 ∷ 2 ∷ rest (v .0 .1) = rw (fg .0, fs .1, fc .0, fv .0, two) refl in
-    given _ _ p (1 ∷ rest w) (g .2)
+      let s = first (reference w) _ p (header-passed 7 w _ p e) in
+      let c = first (field 2 3 (s .0 .1)) _ p (s .2) in
+      let v = first (pointer (c .0 .1)) _ p (c .2) in
+      let o = first (pointer (v .0 .1)) _ p (v .2) in
+      let h = first (points-here (v .0 .0) (o .0 .1)) _ p (o .2) in
+      let a = first (called-address (h .0 .1)) _ p (h .2) in
+      let f = first (optional-part true (o .0 .0) (a .0 .1)) _ p (a .2) in
+      let g = first (lift (agreed (s .0 .1 .place) (c .0 .0) (f .0 .0)) (f .0 .1)) _ p (f .2) in
+      let fs = reference-front w (s .0) (s .1) in
+      let fc = field-front (s .0 .1) 2 3 (c .0) (c .1) in
+      let fv = pointer-front (c .0 .1) (v .0) (v .1) in
+      let fo = pointer-front (v .0 .1) (o .0) (o .1) in
+      let fh = points-front (o .0 .1) (v .0 .0) (h .0) (h .1) in
+      let fa = address-front (h .0 .1) (a .0) (a .1) in
+      let fg = agreed-front (s .0 .1 .place) (c .0 .0) (f .0 .0) (g .0 .0) (fc .1) (fc .2) (lift-value _ (f .0 .1) (g .0) (g .1)) in
+      let two : v .0 .0 .1 ≡ 2 = distance (v .0 .0 .0) (v .0 .0 .1) (c .0 .1 .place) (o .0 .1 .place) 2 (fv .1) (fh .1) (further _ _ _ 1 1 (fv .2 .1) (fo .2 .1)) in
+      let front : rest (v .0 .1) ≡ o .0 .0 .1 ∷ 2 ∷ 66 ∷ a .0 .0 ∷ rest (a .0 .1) = fo .0 ∙ ap (λ xs. o .0 .0 .1 ∷ xs) (sym (ap rest (fh .0)) ∙ fa .0) in
+      let at : o .0 .0 .0 + 4 ≡ a .0 .1 .place = ap (λ x. x + 4) (fo .1) ∙ sym (further _ _ _ 1 3 (fo .2 .1) (fa .2 .1 ∙ ap (λ x. x .place + 3) (fh .0))) in
+      let points = points-laid true (2 ∷ 66 ∷ a .0 .0 ∷ []) (o .0 .0) (v .0 .1) (a .0 .1) (f .0) front at (f .1) in
+      let whole : 1 ∷ rest w ≡ 1 ∷ fs .0 ++ g .0 .0 .0 ∷ 2 ∷ rest (v .0 .1) = rw (fg .0, fs .1, fc .0, fv .0, two) refl in
+      given _ _ p (1 ∷ rest w) (g .2)
       (fs .0, rest (v .0 .1), f .0 .0, whole, fs .2, points, fa .1, rw (fg .0) (fg .1))
 
   confirm-laid : connection-confirm w ≡ Ok p → Laid-out (p .0) (2 ∷ rest w)
   confirm-laid e =
-    let d = first (reference w) _ p (header-passed 9 w _ p e) in
-    let s = first (reference (d .0 .1)) _ p (d .2) in
-    let c = first (field 2 3 (s .0 .1)) _ p (s .2) in
-    let o = first (pointer (c .0 .1)) _ p (c .2) in
-    let f = first (optional-part true (o .0 .0) (o .0 .1)) _ p (o .2) in
-    let g = first (lift (agreed (s .0 .1 .place) (c .0 .0) (f .0 .0)) (f .0 .1)) _ p (f .2) in
-    let fd = reference-front w (d .0) (d .1) in
-    let fs = reference-front (d .0 .1) (s .0) (s .1) in
-    let fc = field-front (s .0 .1) 2 3 (c .0) (c .1) in
-    let fo = pointer-front (c .0 .1) (o .0) (o .1) in
-    let fg = agreed-front (s .0 .1 .place) (c .0 .0) (f .0 .0) (g .0 .0) (fc .1) (fc .2) (lift-value _ (f .0 .1) (g .0) (g .1)) in
-    let points = points-laid true [] (o .0 .0) (c .0 .1) (o .0 .1) (f .0) (fo .0) (ap (λ x. x + 1) (fo .1) ∙ sym (fo .2 .1)) (f .1) in
-    given _ _ p (2 ∷ rest w) (g .2)
+      let d = first (reference w) _ p (header-passed 9 w _ p e) in
+      let s = first (reference (d .0 .1)) _ p (d .2) in
+      let c = first (field 2 3 (s .0 .1)) _ p (s .2) in
+      let o = first (pointer (c .0 .1)) _ p (c .2) in
+      let f = first (optional-part true (o .0 .0) (o .0 .1)) _ p (o .2) in
+      let g = first (lift (agreed (s .0 .1 .place) (c .0 .0) (f .0 .0)) (f .0 .1)) _ p (f .2) in
+      let fd = reference-front w (d .0) (d .1) in
+      let fs = reference-front (d .0 .1) (s .0) (s .1) in
+      let fc = field-front (s .0 .1) 2 3 (c .0) (c .1) in
+      let fo = pointer-front (c .0 .1) (o .0) (o .1) in
+      let fg = agreed-front (s .0 .1 .place) (c .0 .0) (f .0 .0) (g .0 .0) (fc .1) (fc .2) (lift-value _ (f .0 .1) (g .0) (g .1)) in
+      let points = points-laid true [] (o .0 .0) (c .0 .1) (o .0 .1) (f .0) (fo .0) (ap (λ x. x + 1) (fo .1) ∙ sym (fo .2 .1)) (f .1) in
+      given _ _ p (2 ∷ rest w) (g .2)
       (fd .0, fs .0, rest (c .0 .1), f .0 .0, rw (fg .0, fd .1, fs .1, fc .0) refl, fd .2, fs .2, points, rw (fg .0) (fg .1))
 
   refused-laid : connection-refused w ≡ Ok p → Laid-out (p .0) (3 ∷ rest w)
   refused-laid e =
-    let d = first (reference w) _ p (header-passed 6 w _ p e) in
-    let c = first (field 0 15 (d .0 .1)) _ p (d .2) in
-    let o = first (pointer (c .0 .1)) _ p (c .2) in
-    let f = first (optional-part false (o .0 .0) (o .0 .1)) _ p (o .2) in
-    let fd = reference-front w (d .0) (d .1) in
-    let fc = field-front (d .0 .1) 0 15 (c .0) (c .1) in
-    let fo = pointer-front (c .0 .1) (o .0) (o .1) in
-    let points = points-laid false [] (o .0 .0) (c .0 .1) (o .0 .1) (f .0) (fo .0) (ap (λ x. x + 1) (fo .1) ∙ sym (fo .2 .1)) (f .1) in
-    given _ _ p (3 ∷ rest w) (f .2) (fd .0, rest (c .0 .1), f .0 .0, rw (fd .1, fc .0) refl, fd .2, fc .2, points)
+      let d = first (reference w) _ p (header-passed 6 w _ p e) in
+      let c = first (field 0 15 (d .0 .1)) _ p (d .2) in
+      let o = first (pointer (c .0 .1)) _ p (c .2) in
+      let f = first (optional-part false (o .0 .0) (o .0 .1)) _ p (o .2) in
+      let fd = reference-front w (d .0) (d .1) in
+      let fc = field-front (d .0 .1) 0 15 (c .0) (c .1) in
+      let fo = pointer-front (c .0 .1) (o .0) (o .1) in
+      let points = points-laid false [] (o .0 .0) (c .0 .1) (o .0 .1) (f .0) (fo .0) (ap (λ x. x + 1) (fo .1) ∙ sym (fo .2 .1)) (f .1) in
+      given _ _ p (3 ∷ rest w) (f .2) (fd .0, rest (c .0 .1), f .0 .0, rw (fd .1, fc .0) refl, fd .2, fc .2, points)
 
   released-laid : released w ≡ Ok p → Laid-out (p .0) (4 ∷ rest w)
   released-laid e =
-    let d = first (reference w) _ p (header-passed 9 w _ p e) in
-    let s = first (reference (d .0 .1)) _ p (d .2) in
-    let c = first (field 0 15 (s .0 .1)) _ p (s .2) in
-    let o = first (pointer (c .0 .1)) _ p (c .2) in
-    let f = first (optional-part false (o .0 .0) (o .0 .1)) _ p (o .2) in
-    let fd = reference-front w (d .0) (d .1) in
-    let fs = reference-front (d .0 .1) (s .0) (s .1) in
-    let fc = field-front (s .0 .1) 0 15 (c .0) (c .1) in
-    let fo = pointer-front (c .0 .1) (o .0) (o .1) in
-    let points = points-laid false [] (o .0 .0) (c .0 .1) (o .0 .1) (f .0) (fo .0) (ap (λ x. x + 1) (fo .1) ∙ sym (fo .2 .1)) (f .1) in
-    given _ _ p (4 ∷ rest w) (f .2) (fd .0, fs .0, rest (c .0 .1), f .0 .0, rw (fd .1, fs .1, fc .0) refl, fd .2, fs .2, fc .2, points)
+      let d = first (reference w) _ p (header-passed 9 w _ p e) in
+      let s = first (reference (d .0 .1)) _ p (d .2) in
+      let c = first (field 0 15 (s .0 .1)) _ p (s .2) in
+      let o = first (pointer (c .0 .1)) _ p (c .2) in
+      let f = first (optional-part false (o .0 .0) (o .0 .1)) _ p (o .2) in
+      let fd = reference-front w (d .0) (d .1) in
+      let fs = reference-front (d .0 .1) (s .0) (s .1) in
+      let fc = field-front (s .0 .1) 0 15 (c .0) (c .1) in
+      let fo = pointer-front (c .0 .1) (o .0) (o .1) in
+      let points = points-laid false [] (o .0 .0) (c .0 .1) (o .0 .1) (f .0) (fo .0) (ap (λ x. x + 1) (fo .1) ∙ sym (fo .2 .1)) (f .1) in
+      given _ _ p (4 ∷ rest w) (f .2) (fd .0, fs .0, rest (c .0 .1), f .0 .0, rw (fd .1, fs .1, fc .0) refl, fd .2, fs .2, fc .2, points)
 
   references-laid : (type : ℕ) (p : (ℕ × ℕ) × Window) → two-references w ≡ Ok p →
       (d s : List ℕ) × (type ∷ rest w ≡ type ∷ d ++ s) × Is-reference (p .0 .0) d × Is-reference (p .0 .1) s
   unfolding two-references
   references-laid type p e =
-    let d = first (reference w) _ p (header-passed 7 w _ p e) in
-    let s = first (reference (d .0 .1)) _ p (d .2) in
-    let n = first (ends VariablePart (s .0 .1)) _ p (s .2) in
-    let fd = reference-front w (d .0) (d .1) in
-    let fs = reference-front (d .0 .1) (s .0) (s .1) in
-    let fn = ends-front VariablePart (s .0 .1) (n .0) (n .1) in
-    let same : p .0 ≡ (d .0 .0, s .0 .0) = ended (n .0 .1) p (n .2) in
-    (fd .0, fs .0, rw (fd .1, fs .1, fn .0) (ap (λ xs. type ∷ fd .0 ++ xs) (append-nil (fs .0))),
-      subst (λ (x : ℕ). Is-reference x (fd .0)) (sym (ap (λ q. q .0) same)) (fd .2), subst (λ (x : ℕ). Is-reference x (fs .0)) (sym (ap (λ q. q .1) same)) (fs .2))
+      let d = first (reference w) _ p (header-passed 7 w _ p e) in
+      let s = first (reference (d .0 .1)) _ p (d .2) in
+      let n = first (ends VariablePart (s .0 .1)) _ p (s .2) in
+      let fd = reference-front w (d .0) (d .1) in
+      let fs = reference-front (d .0 .1) (s .0) (s .1) in
+      let fn = ends-front VariablePart (s .0 .1) (n .0) (n .1) in
+      let same : p .0 ≡ (d .0 .0, s .0 .0) = ended (n .0 .1) p (n .2) in (
+        fd .0,
+        fs .0,
+        rw (fd .1, fs .1, fn .0) (ap (λ xs. type ∷ fd .0 ++ xs) (append-nil (fs .0))),
+        subst (λ (x : ℕ). Is-reference x (fd .0)) (sym (ap (λ q. q .0) same)) (fd .2),
+        subst (λ (x : ℕ). Is-reference x (fs .0)) (sym (ap (λ q. q .1) same)) (fs .2),
+      )
     where
       ended : {a : ℕ × ℕ} (v : Window) (p : (ℕ × ℕ) × Window) → _≡_ {A = Result ((ℕ × ℕ) × Window) Fault} (Ok (a, v)) (Ok p) → p .0 ≡ a
       ended {a} v p e = let same : p ≡ (a, v) = cc in ap (λ q. q .0) same
@@ -168,58 +172,58 @@ module _ (w : Window) (p : Content × Window) where
 
   reset-laid : reset-request w ≡ Ok p → Laid-out (p .0) (13 ∷ rest w)
   reset-laid e =
-    let d = first (reference w) _ p (header-passed 8 w _ p e) in
-    let s = first (reference (d .0 .1)) _ p (d .2) in
-    let c = first (field 0 15 (s .0 .1)) _ p (s .2) in
-    let n = first (ends VariablePart (c .0 .1)) _ p (c .2) in
-    let fd = reference-front w (d .0) (d .1) in
-    let fs = reference-front (d .0 .1) (s .0) (s .1) in
-    let fc = field-front (s .0 .1) 0 15 (c .0) (c .1) in
-    let fn = ends-front VariablePart (c .0 .1) (n .0) (n .1) in
-    given _ _ p (13 ∷ rest w) (n .2) (fd .0, fs .0, rw (fd .1, fs .1, fc .0, fn .0) refl, fd .2, fs .2, fc .2)
+      let d = first (reference w) _ p (header-passed 8 w _ p e) in
+      let s = first (reference (d .0 .1)) _ p (d .2) in
+      let c = first (field 0 15 (s .0 .1)) _ p (s .2) in
+      let n = first (ends VariablePart (c .0 .1)) _ p (c .2) in
+      let fd = reference-front w (d .0) (d .1) in
+      let fs = reference-front (d .0 .1) (s .0) (s .1) in
+      let fc = field-front (s .0 .1) 0 15 (c .0) (c .1) in
+      let fn = ends-front VariablePart (c .0 .1) (n .0) (n .1) in
+      given _ _ p (13 ∷ rest w) (n .2) (fd .0, fs .0, rw (fd .1, fs .1, fc .0, fn .0) refl, fd .2, fs .2, fc .2)
 
   error-laid : error w ≡ Ok p → Laid-out (p .0) (15 ∷ rest w)
   error-laid e =
-    let d = first (reference w) _ p (header-passed 5 w _ p e) in
-    let c = first (field 0 4 (d .0 .1)) _ p (d .2) in
-    let n = first (ends VariablePart (c .0 .1)) _ p (c .2) in
-    let fd = reference-front w (d .0) (d .1) in
-    let fc = field-front (d .0 .1) 0 4 (c .0) (c .1) in
-    let fn = ends-front VariablePart (c .0 .1) (n .0) (n .1) in
-    given _ _ p (15 ∷ rest w) (n .2) (fd .0, rw (fd .1, fc .0, fn .0) refl, fd .2, fc .2)
+      let d = first (reference w) _ p (header-passed 5 w _ p e) in
+      let c = first (field 0 4 (d .0 .1)) _ p (d .2) in
+      let n = first (ends VariablePart (c .0 .1)) _ p (c .2) in
+      let fd = reference-front w (d .0) (d .1) in
+      let fc = field-front (d .0 .1) 0 4 (c .0) (c .1) in
+      let fn = ends-front VariablePart (c .0 .1) (n .0) (n .1) in
+      given _ _ p (15 ∷ rest w) (n .2) (fd .0, rw (fd .1, fc .0, fn .0) refl, fd .2, fc .2)
 
   acknowledgement-laid : data-acknowledgement w ≡ Ok p → Laid-out (p .0) (8 ∷ rest w)
   acknowledgement-laid e =
-    let d = first (reference w) _ p (header-passed 6 w _ p e) in
-    let r = first (sequence-number (d .0 .1)) _ p (d .2) in
-    let c = first (field 1 127 (r .0 .1)) _ p (r .2) in
-    let n = first (ends VariablePart (c .0 .1)) _ p (c .2) in
-    let fd = reference-front w (d .0) (d .1) in
-    let fr = sequence-front (d .0 .1) (r .0) (r .1) in
-    let fc = field-front (r .0 .1) 1 127 (c .0) (c .1) in
-    let fn = ends-front VariablePart (c .0 .1) (n .0) (n .1) in
-    given _ _ p (8 ∷ rest w) (n .2) (fd .0, rw (fd .1, fr .0, fc .0, fn .0) refl, fd .2, fc .1, fc .2)
+      let d = first (reference w) _ p (header-passed 6 w _ p e) in
+      let r = first (sequence-number (d .0 .1)) _ p (d .2) in
+      let c = first (field 1 127 (r .0 .1)) _ p (r .2) in
+      let n = first (ends VariablePart (c .0 .1)) _ p (c .2) in
+      let fd = reference-front w (d .0) (d .1) in
+      let fr = sequence-front (d .0 .1) (r .0) (r .1) in
+      let fc = field-front (r .0 .1) 1 127 (c .0) (c .1) in
+      let fn = ends-front VariablePart (c .0 .1) (n .0) (n .1) in
+      given _ _ p (8 ∷ rest w) (n .2) (fd .0, rw (fd .1, fr .0, fc .0, fn .0) refl, fd .2, fc .1, fc .2)
 
   form-1-laid : data-form-1 w ≡ Ok p → Laid-out (p .0) (6 ∷ rest w)
   form-1-laid e =
-    let d = first (reference w) _ p (header-passed 6 w _ p e) in
-    let m = first (field 0 1 (d .0 .1)) _ p (d .2) in
-    let x = segment-laid (m .0 .1) _ p (m .2) in
-    let fd = reference-front w (d .0) (d .1) in
-    let fm = field-front (d .0 .1) 0 1 (m .0) (m .1) in
-    given _ _ p (6 ∷ rest w) (x .2)
+      let d = first (reference w) _ p (header-passed 6 w _ p e) in
+      let m = first (field 0 1 (d .0 .1)) _ p (d .2) in
+      let x = segment-laid (m .0 .1) _ p (m .2) in
+      let fd = reference-front w (d .0) (d .1) in
+      let fm = field-front (d .0 .1) 0 1 (m .0) (m .1) in
+      given _ _ p (6 ∷ rest w) (x .2)
       (fd .0, rw (fd .1, fm .0, x .3) (ap (λ y. 6 ∷ fd .0 ++ y ∷ 1 ∷ length (x .0) ∷ x .0) (flag (m .0 .0) (fm .2))), fd .2, x .4)
 
   form-2-laid : data-form-2 w ≡ Ok p → Laid-out (p .0) (7 ∷ rest w)
   form-2-laid e =
-    let d = first (reference w) _ p (header-passed 7 w _ p e) in
-    let s = first (sequence-number (d .0 .1)) _ p (d .2) in
-    let r = first (octet CutShort (s .0 .1)) _ p (s .2) in
-    let x = segment-laid (r .0 .1) _ p (r .2) in
-    let fd = reference-front w (d .0) (d .1) in
-    let fs = sequence-front (d .0 .1) (s .0) (s .1) in
-    let fr = octet-front CutShort (s .0 .1) (r .0) (r .1) in
-    given _ _ p (7 ∷ rest w) (x .2)
+      let d = first (reference w) _ p (header-passed 7 w _ p e) in
+      let s = first (sequence-number (d .0 .1)) _ p (d .2) in
+      let r = first (octet CutShort (s .0 .1)) _ p (s .2) in
+      let x = segment-laid (r .0 .1) _ p (r .2) in
+      let fd = reference-front w (d .0) (d .1) in
+      let fs = sequence-front (d .0 .1) (s .0) (s .1) in
+      let fr = octet-front CutShort (s .0 .1) (r .0) (r .1) in
+      given _ _ p (7 ∷ rest w) (x .2)
       (fd .0, rw (fd .1, fs .0, fr .0, x .3) (ap (λ y. 7 ∷ fd .0 ++ (s .0 .0 * 2) ∷ y ∷ 1 ∷ length (x .0) ∷ x .0) (halves (r .0 .0))), fd .2, x .4)
 
   -- by the type
@@ -233,10 +237,10 @@ module _ (w : Window) (p : Content × Window) where
 
   message-laid : (type : ℕ) → message-of type w ≡ Ok p → Laid-out (p .0) (type ∷ rest w)
   message-laid type =
-    one-type type 1 _ _ request-laid (one-type type 2 _ _ confirm-laid (one-type type 3 _ _ refused-laid (one-type type 4 _ _ released-laid
-    (one-type type 5 _ _ complete-laid (one-type type 6 _ _ form-1-laid (one-type type 7 _ _ form-2-laid (one-type type 8 _ _ acknowledgement-laid
-    (one-type type 13 _ _ reset-laid (one-type type 14 _ _ confirmed-laid (one-type type 15 _ _ error-laid
-    (λ e. absurd (let z : _≡_ {A = ℕ} 0 1 = cc in omega arith))))))))))))
+      one-type type 1 _ _ request-laid (one-type type 2 _ _ confirm-laid (one-type type 3 _ _ refused-laid (one-type type 4 _ _ released-laid
+      (one-type type 5 _ _ complete-laid (one-type type 6 _ _ form-1-laid (one-type type 7 _ _ form-2-laid (one-type type 8 _ _ acknowledgement-laid
+      (one-type type 13 _ _ reset-laid (one-type type 14 _ _ confirmed-laid (one-type type 15 _ _ error-laid
+      (λ e. absurd (let z : _≡_ {A = ℕ} 0 1 = cc in omega arith))))))))))))
 
 value-gives : (r : Result (Content × Window) Fault) (c : Content) → value r ≡ Ok c → (v : Window) × (r ≡ Ok (c, v))
 value-gives (Ok p) c e = (p .1, let same : p .0 ≡ c = cc in ap (λ x. Ok (x, p .1)) same)

@@ -68,7 +68,7 @@ pub data Is-optional (due : Bool) : Option ℕ → List ℕ → Type 0 where
   ended : Is-optional due None (0 ∷ [])
   with-credit : {x : ℕ} {rest : List ℕ} → due ≡ true → Is-optional due None rest → Is-optional due (Some x) (9 ∷ 1 ∷ x ∷ rest)
   with-other : {found : Option ℕ} {name : ℕ} (contents : List ℕ) {rest : List ℕ} → (name ≡ 0 → ⊥) → (due ≡ true → name ≡ 9 → ⊥) → 1 ≤ length contents →
-    Is-optional due found rest → Is-optional due found (name ∷ length contents ∷ contents ++ rest)
+      Is-optional due found rest → Is-optional due found (name ∷ length contents ∷ contents ++ rest)
 
 -- the pointer O and all that follows it: O is 00 and no optional part follows, or O counts the octets from itself to the optional part, which ends the message.
 -- What stands between O and that part is `between`

@@ -1,11 +1,13 @@
 // The eleven messages, each as its layout has it behind the type: fixed fields, pointers, the variable part, the optional part.
 ghost use Prim.Native.Nat.{ℕ, _+_, _<_, _≤_};
 ghost use mathlib.Core.Path.{_≡_};
+ghost use mathlib.Core.Bool.{true};
 ghost use mathlib.Core.Logic.{_↔_};
+ghost use Rattle.std.specs.Vec.{made};
 ghost use Rattle.std.specs.declared.result.Result.the-variants.{Ok};
-ghost use Rattle.message.specs.Content.{Content};
+ghost use Rattle.message.specs.Content.{Content, within};
 ghost use Rattle.message.specs.Layout.{Is-message};
-ghost use Rattle.message.specs.Meaning.{means};
+ghost use Rattle.message.specs.Meaning.{meaning, means};
 ghost use Rattle.message.specs.Window.{window, outcome};
 ghost use Rattle.message.specs.Reading as reading;
 use crate::content::Cause;
@@ -23,6 +25,7 @@ use crate::reader::parts::agreed;
 pub fn read<'a>(octets: &'a [u8]) -> Result<Message<'a>, Fault>
     ensures says { λ r. ⌜ means r ≡ reading.reading (now (octets .entry)) ⌝ }
     ensures laid_out { λ r. ⌜ ((c : Content) → (means r ≡ Ok c) ↔ Is-message c (now (octets .entry))) ⌝ }
+    ensures fits { λ r. ⌜ made r (λ message. within (meaning message) ≡ true) ⌝ }
 {
     if octets.len() == 0 || octets.len() > kind::LARGEST_MESSAGE {
         return Err(Refusal::MessageLength.at(0));

@@ -4,16 +4,21 @@ use Rattle.std.specs.declared.result.Result.the-variants.{Err}
 use Rattle.message.specs.Meaning.{means}
 use Rattle.message.specs.Reading.{reading}
 use Rattle.message.proofs.Agree.{agrees}
+use Rattle.message.proofs.Limits.{read-limits}
 use Rattle.message.proofs.reader.whole.read.Needs as need
 
 pub returns-then-octets-eq0 : need.returns-then-octets-eq0
 unfolding reading
 returns-then-octets-eq0 c =
     let says : Err (c .at .result) ≡ reading (c .args .octets .now) = search needs in
-    record { says = says; laid-out = agrees (c .args .octets .now) (Err (c .at .result)) says }
+    record { says = says; laid-out = agrees (c .args .octets .now) (Err (c .at .result)) says; fits = tt }
 
 pub returns : need.returns
 unfolding reading
 returns c =
     let says : means (c .message .result) ≡ reading (c .args .octets .now) = search needs in
-    record { says = says; laid-out = agrees (c .args .octets .now) (means (c .message .result)) says }
+    record {
+      says = says;
+      laid-out = agrees (c .args .octets .now) (means (c .message .result)) says;
+      fits = read-limits (c .message .result) (c .args .octets .now) (λ i. c .typed .octets i .fits) says;
+    }
