@@ -4,15 +4,11 @@ use mathlib.Core.Path.{_≡_}
 use mathlib.Core.List.{List, [], _∷_, _++_}
 use mathlib.Core.Bool.{Bool, true, false, cond}
 use mathlib.Core.Logic.{_⊎_}
-use lib.ListN.{length, drop}
-use lib.Dec.{T, eqb, ltb}
+use lib.ListN.{length}
+use lib.Dec.{eqb}
 use Rattle.std.specs.declared.option.Option.{Option}
 use Rattle.std.specs.declared.option.Option.the-variants.{Some, None}
-use Rattle.std.specs.declared.result.Result.{Result}
-use Rattle.std.specs.declared.result.Result.the-variants.{Ok, Err}
-use Rattle.message.specs.declared.fault.Fault.{Fault}
-use Rattle.message.specs.declared.fault.Refusal.the-variants.{MemorySize, OutOfLimits}
-use Rattle.message.specs.Content.{Content, connection-request, connection-confirm, connection-refused, released, release-complete, data-form-1, data-form-2, data-acknowledgement, reset-request, reset-confirm, error, within, class-fits}
+use Rattle.message.specs.Content.{Content, connection-request, connection-confirm, connection-refused, released, release-complete, data-form-1, data-form-2, data-acknowledgement, reset-request, reset-confirm, error}
 
 -- What is written
 
@@ -41,20 +37,6 @@ layout (data-acknowledgement destination receive credit) = 8 ∷ reference-octet
 layout (reset-request destination source cause) = 13 ∷ reference-octets destination ++ reference-octets source ++ cause ∷ []
 layout (reset-confirm destination source) = 14 ∷ reference-octets destination ++ reference-octets source
 layout (error destination cause) = 15 ∷ reference-octets destination ++ cause ∷ []
-
--- the message at the front of a buffer, and behind it what was there
-abbrev pub laid : Content → List ℕ → List ℕ
-laid c buffer = layout c ++ drop (length (layout c)) buffer
-
--- what writing answers: the size, or a refusal of a buffer under 268 octets, and then of a message with a field outside its limits
-abbrev pub written-answer : Content → List ℕ → Result ℕ Fault
-written-answer c buffer =
-    cond (ltb (length buffer) 268) (Err (record { refusal = MemorySize; place = 0 }))
-    (cond (within c) (Ok (length (layout c))) (Err (record { refusal = OutOfLimits; place = 0 })))
-
--- what writing leaves: a refusal changes nothing
-abbrev pub written-buffer : Content → List ℕ → List ℕ
-written-buffer c buffer = cond (ltb (length buffer) 268) buffer (cond (within c) (laid c buffer) buffer)
 
 -- Which octet strings are laid out as a message
 

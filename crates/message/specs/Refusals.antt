@@ -46,3 +46,9 @@ layer NoIdleRecord = Node
 layer WrongPlace = Node
 layer WindowFull = Node
 layer WayFull = Route
+
+-- the number by which a layer is known
+abbrev pub layer-number : Layer → ℕ
+layer-number Route = 1
+layer-number Message = 2
+layer-number Node = 3

@@ -5,27 +5,27 @@ ghost use Rattle.message.specs.Content.{within, between, reference-fits, class
 ghost use Rattle.message.specs.Meaning.{meaning, class-number, credit-number};
 
 // A local reference: the number that one end gave to its section of a connection. 1 to 16,777,215.
-#[derive(Clone, Copy, PartialEq, Eq, Debug)]
+#[derive(Clone, Copy)]
 pub struct Reference(pub u32);
 
 // The number of the subsystem that is called: 1 to 255.
-#[derive(Clone, Copy, PartialEq, Eq, Debug)]
+#[derive(Clone, Copy)]
 pub struct Subsystem(pub u8);
 
 // The window size of a class 3 connection: 1 to 127.
-#[derive(Clone, Copy, PartialEq, Eq, Debug)]
+#[derive(Clone, Copy)]
 pub struct Credit(pub u8);
 
 // P(S) or P(R): a segment's number modulo 128, 0 to 127.
-#[derive(Clone, Copy, PartialEq, Eq, Debug)]
+#[derive(Clone, Copy)]
 pub struct SequenceNumber(pub u8);
 
 // The cause of a refusal, a release or a reset: 0 to 15.
-#[derive(Clone, Copy, PartialEq, Eq, Debug)]
+#[derive(Clone, Copy)]
 pub struct Cause(pub u8);
 
 // The cause in ERR, numbered from 0.
-#[derive(Clone, Copy, PartialEq, Eq, Debug)]
+#[derive(Clone, Copy)]
 pub enum ErrorCause {
     UnassignedDestination,
     InconsistentSource,
@@ -35,7 +35,7 @@ pub enum ErrorCause {
 }
 
 // The protocol class, with the credit that class 3 has.
-#[derive(Clone, Copy, PartialEq, Eq, Debug)]
+#[derive(Clone, Copy)]
 pub enum ProtocolClass {
     Class2,
     Class3 { credit: Credit },

@@ -1,6 +1,0 @@
-use borrow.Author.Needs.{needs}
-use Rattle.message.proofs.Examples.{worked-examples}
-use Rattle.message.proofs.example.example_request.Needs as need
-
-pub returns : need.returns
-returns c = record { octets = search needs; examples = worked-examples }

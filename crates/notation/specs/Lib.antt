@@ -1,0 +1,5 @@
+pub mod Digits
+pub mod Stages
+pub mod Text
+pub mod Capitals
+pub mod Lines

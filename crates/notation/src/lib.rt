@@ -1,0 +1,5 @@
+// How octets, messages and refusals are written as text.
+pub mod hex;
+pub mod line;
+pub mod octets;
+mod stage;
