@@ -1,10 +1,10 @@
 // What one line of input comes to.
-use reader::read;
 use notation::hex::HexFault;
 use notation::hex::HexFaultDisplay;
 use notation::hex::parse;
 use notation::line::AnswerLine;
 use notation::line::AnswerLineDisplay;
+use reader::read;
 use std::alloc::AllocError;
 use std::alloc::Global;
 

@@ -7,13 +7,17 @@ ghost use lib.ListN.{length, take, drop};
 ghost use Rattle.std.specs.Vec.{made};
 ghost use Rattle.std.specs.declared.result.Result.the-variants.{Ok};
 ghost use Rattle.message.specs.Content as content;
-ghost use Rattle.message.specs.Layout.{layout, reference-octets};
-ghost use Rattle.writer.specs.Writing.{laid, written-answer, written-buffer};
+ghost use Rattle.message.specs.Layout.{reference-octets};
+ghost use Rattle.writer.specs.Writing.{Lays, written-answer, written-buffer};
 ghost use Rattle.reader.specs.Reading.{reading};
 ghost use Rattle.message.specs.Meaning.{meaning, class-number, credit-number, error-number};
+use message::content::Cause;
+use message::content::Credit;
+use message::content::ErrorCause;
 use message::content::Message;
 use message::content::ProtocolClass;
 use message::content::Reference;
+use message::content::SequenceNumber;
 use message::content::Subsystem;
 use message::fault::Fault;
 use message::fault::Refusal;
@@ -40,8 +44,7 @@ pub fn write(message: Message<'_>, buffer: &mut [u8]) -> Result<usize, Fault>
 
 fn lay_out(message: Message<'_>, buffer: &mut [u8]) -> usize
     requires { ⌜ content.within (meaning message) ≡ true ⌝ ∗ ⌜ 268 ≤ length (now buffer) ⌝ }
-    ensures size { λ r. ⌜ r ≡ length (layout (meaning (message .entry))) ⌝ }
-    ensures after { λ _. ⌜ now (buffer .exit) ≡ laid (meaning (message .entry)) (now (buffer .entry)) ⌝ }
+    ensures { λ r. ⌜ Lays (meaning (message .entry)) (now (buffer .entry)) (now (buffer .exit)) r ⌝ }
 {
     match message {
         Message::ConnectionRequest {
@@ -54,115 +57,47 @@ fn lay_out(message: Message<'_>, buffer: &mut [u8]) -> usize
             source,
             class,
         } => connection_confirm(buffer, destination, source, class),
-        Message::ConnectionRefused { destination, cause } => {
-            let [d0, d1, d2] = octets_of(destination);
-            front(buffer, &[kind::CONNECTION_REFUSED, d0, d1, d2, cause.0, 0])
-        }
+        Message::ConnectionRefused { destination, cause } => connection_refused(
+            buffer,
+            destination,
+            cause,
+        ),
         Message::Released {
             destination,
             source,
             cause,
-        } => {
-            let [d0, d1, d2] = octets_of(destination);
-            let [s0, s1, s2] = octets_of(source);
-            front(
-                buffer,
-                &[kind::RELEASED, d0, d1, d2, s0, s1, s2, cause.0, 0],
-            )
-        }
+        } => released(buffer, destination, source, cause),
         Message::ReleaseComplete {
             destination,
             source,
-        } => {
-            let [d0, d1, d2] = octets_of(destination);
-            let [s0, s1, s2] = octets_of(source);
-            front(buffer, &[kind::RELEASE_COMPLETE, d0, d1, d2, s0, s1, s2])
-        }
+        } => release_complete(buffer, destination, source),
         Message::DataForm1 {
             destination,
             more,
             data,
-        } => {
-            let [d0, d1, d2] = octets_of(destination);
-            with_data(
-                buffer,
-                &[
-                    kind::DATA_FORM_1,
-                    d0,
-                    d1,
-                    d2,
-                    more as u8,
-                    1,
-                    data.len() as u8,
-                ],
-                data,
-            )
-        }
+        } => data_form_1(buffer, destination, more, data),
         Message::DataForm2 {
             destination,
             send,
             receive,
             more,
             data,
-        } => {
-            let [d0, d1, d2] = octets_of(destination);
-            with_data(
-                buffer,
-                &[
-                    kind::DATA_FORM_2,
-                    d0,
-                    d1,
-                    d2,
-                    send.0 * 2,
-                    receive.0 * 2 + more as u8,
-                    1,
-                    data.len() as u8,
-                ],
-                data,
-            )
-        }
+        } => data_form_2(buffer, destination, send, receive, more, data),
         Message::DataAcknowledgement {
             destination,
             receive,
             credit,
-        } => {
-            let [d0, d1, d2] = octets_of(destination);
-            front(
-                buffer,
-                &[
-                    kind::DATA_ACKNOWLEDGEMENT,
-                    d0,
-                    d1,
-                    d2,
-                    receive.0 * 2,
-                    credit.0,
-                ],
-            )
-        }
+        } => data_acknowledgement(buffer, destination, receive, credit),
         Message::ResetRequest {
             destination,
             source,
             cause,
-        } => {
-            let [d0, d1, d2] = octets_of(destination);
-            let [s0, s1, s2] = octets_of(source);
-            front(
-                buffer,
-                &[kind::RESET_REQUEST, d0, d1, d2, s0, s1, s2, cause.0],
-            )
-        }
+        } => reset_request(buffer, destination, source, cause),
         Message::ResetConfirm {
             destination,
             source,
-        } => {
-            let [d0, d1, d2] = octets_of(destination);
-            let [s0, s1, s2] = octets_of(source);
-            front(buffer, &[kind::RESET_CONFIRM, d0, d1, d2, s0, s1, s2])
-        }
-        Message::Error { destination, cause } => {
-            let [d0, d1, d2] = octets_of(destination);
-            front(buffer, &[kind::ERROR, d0, d1, d2, cause as u8])
-        }
+        } => reset_confirm(buffer, destination, source),
+        Message::Error { destination, cause } => error(buffer, destination, cause),
     }
 }
 
@@ -173,8 +108,7 @@ fn connection_request(
     subsystem: Subsystem,
 ) -> usize
     requires { ⌜ 268 ≤ length (now buffer) ⌝ }
-    ensures size { λ r. ⌜ r ≡ length (layout (content.connection-request (source .0) (class-number class) (credit-number class) (subsystem .0))) ⌝ }
-    ensures after { λ _. ⌜ now (buffer .exit) ≡ laid (content.connection-request (source .0) (class-number class) (credit-number class) (subsystem .0)) (now (buffer .entry)) ⌝ }
+    ensures { λ r. ⌜ Lays (content.connection-request (source .0) (class-number class) (credit-number class) (subsystem .0)) (now (buffer .entry)) (now (buffer .exit)) r ⌝ }
 {
     let [s0, s1, s2] = octets_of(source);
     match class {
@@ -222,8 +156,7 @@ fn connection_confirm(
     class: ProtocolClass,
 ) -> usize
     requires { ⌜ 268 ≤ length (now buffer) ⌝ }
-    ensures size { λ r. ⌜ r ≡ length (layout (content.connection-confirm (destination .0) (source .0) (class-number class) (credit-number class))) ⌝ }
-    ensures after { λ _. ⌜ now (buffer .exit) ≡ laid (content.connection-confirm (destination .0) (source .0) (class-number class) (credit-number class)) (now (buffer .entry)) ⌝ }
+    ensures { λ r. ⌜ Lays (content.connection-confirm (destination .0) (source .0) (class-number class) (credit-number class)) (now (buffer .entry)) (now (buffer .exit)) r ⌝ }
 {
     let [d0, d1, d2] = octets_of(destination);
     let [s0, s1, s2] = octets_of(source);
@@ -251,6 +184,134 @@ fn connection_confirm(
             ],
         ),
     }
+}
+
+fn connection_refused(buffer: &mut [u8], destination: Reference, cause: Cause) -> usize
+    requires { ⌜ 268 ≤ length (now buffer) ⌝ }
+    ensures { λ r. ⌜ Lays (content.connection-refused (destination .0) (cause .0)) (now (buffer .entry)) (now (buffer .exit)) r ⌝ }
+{
+    let [d0, d1, d2] = octets_of(destination);
+    front(buffer, &[kind::CONNECTION_REFUSED, d0, d1, d2, cause.0, 0])
+}
+
+fn released(buffer: &mut [u8], destination: Reference, source: Reference, cause: Cause) -> usize
+    requires { ⌜ 268 ≤ length (now buffer) ⌝ }
+    ensures { λ r. ⌜ Lays (content.released (destination .0) (source .0) (cause .0)) (now (buffer .entry)) (now (buffer .exit)) r ⌝ }
+{
+    let [d0, d1, d2] = octets_of(destination);
+    let [s0, s1, s2] = octets_of(source);
+    front(
+        buffer,
+        &[kind::RELEASED, d0, d1, d2, s0, s1, s2, cause.0, 0],
+    )
+}
+
+fn release_complete(buffer: &mut [u8], destination: Reference, source: Reference) -> usize
+    requires { ⌜ 268 ≤ length (now buffer) ⌝ }
+    ensures { λ r. ⌜ Lays (content.release-complete (destination .0) (source .0)) (now (buffer .entry)) (now (buffer .exit)) r ⌝ }
+{
+    let [d0, d1, d2] = octets_of(destination);
+    let [s0, s1, s2] = octets_of(source);
+    front(buffer, &[kind::RELEASE_COMPLETE, d0, d1, d2, s0, s1, s2])
+}
+
+fn data_form_1(buffer: &mut [u8], destination: Reference, more: bool, data: &[u8]) -> usize
+    requires { ⌜ length (now «data») ≤ 255 ⌝ ∗ ⌜ 268 ≤ length (now buffer) ⌝ }
+    ensures { λ r. ⌜ Lays (content.data-form-1 (destination .0) more (now («data» .entry))) (now (buffer .entry)) (now (buffer .exit)) r ⌝ }
+{
+    let [d0, d1, d2] = octets_of(destination);
+    let size = data.len() as u8;
+    with_data(
+        buffer,
+        &[kind::DATA_FORM_1, d0, d1, d2, more as u8, 1, size],
+        data,
+    )
+}
+
+fn data_form_2(
+    buffer: &mut [u8],
+    destination: Reference,
+    send: SequenceNumber,
+    receive: SequenceNumber,
+    more: bool,
+    data: &[u8],
+) -> usize
+    requires { ⌜ (send .0 ≤ 127) × (receive .0 ≤ 127) × (length (now «data») ≤ 255) ⌝ ∗ ⌜ 268 ≤ length (now buffer) ⌝ }
+    ensures { λ r. ⌜ Lays (content.data-form-2 (destination .0) (send .0) (receive .0) more (now («data» .entry))) (now (buffer .entry)) (now (buffer .exit)) r ⌝ }
+{
+    let [d0, d1, d2] = octets_of(destination);
+    let size = data.len() as u8;
+    with_data(
+        buffer,
+        &[
+            kind::DATA_FORM_2,
+            d0,
+            d1,
+            d2,
+            send.0 * 2,
+            receive.0 * 2 + more as u8,
+            1,
+            size,
+        ],
+        data,
+    )
+}
+
+fn data_acknowledgement(
+    buffer: &mut [u8],
+    destination: Reference,
+    receive: SequenceNumber,
+    credit: Credit,
+) -> usize
+    requires { ⌜ receive .0 ≤ 127 ⌝ ∗ ⌜ 268 ≤ length (now buffer) ⌝ }
+    ensures { λ r. ⌜ Lays (content.data-acknowledgement (destination .0) (receive .0) (credit .0)) (now (buffer .entry)) (now (buffer .exit)) r ⌝ }
+{
+    let [d0, d1, d2] = octets_of(destination);
+    front(
+        buffer,
+        &[
+            kind::DATA_ACKNOWLEDGEMENT,
+            d0,
+            d1,
+            d2,
+            receive.0 * 2,
+            credit.0,
+        ],
+    )
+}
+
+fn reset_request(
+    buffer: &mut [u8],
+    destination: Reference,
+    source: Reference,
+    cause: Cause,
+) -> usize
+    requires { ⌜ 268 ≤ length (now buffer) ⌝ }
+    ensures { λ r. ⌜ Lays (content.reset-request (destination .0) (source .0) (cause .0)) (now (buffer .entry)) (now (buffer .exit)) r ⌝ }
+{
+    let [d0, d1, d2] = octets_of(destination);
+    let [s0, s1, s2] = octets_of(source);
+    front(
+        buffer,
+        &[kind::RESET_REQUEST, d0, d1, d2, s0, s1, s2, cause.0],
+    )
+}
+
+fn reset_confirm(buffer: &mut [u8], destination: Reference, source: Reference) -> usize
+    requires { ⌜ 268 ≤ length (now buffer) ⌝ }
+    ensures { λ r. ⌜ Lays (content.reset-confirm (destination .0) (source .0)) (now (buffer .entry)) (now (buffer .exit)) r ⌝ }
+{
+    let [d0, d1, d2] = octets_of(destination);
+    let [s0, s1, s2] = octets_of(source);
+    front(buffer, &[kind::RESET_CONFIRM, d0, d1, d2, s0, s1, s2])
+}
+
+fn error(buffer: &mut [u8], destination: Reference, cause: ErrorCause) -> usize
+    requires { ⌜ 268 ≤ length (now buffer) ⌝ }
+    ensures { λ r. ⌜ Lays (content.error (destination .0) (error-number cause)) (now (buffer .entry)) (now (buffer .exit)) r ⌝ }
+{
+    let [d0, d1, d2] = octets_of(destination);
+    front(buffer, &[kind::ERROR, d0, d1, d2, cause as u8])
 }
 
 // Three octets, the lowest first.

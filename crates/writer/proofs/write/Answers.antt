@@ -23,9 +23,9 @@ returns c =
     let fits : within (meaning (c .args .message)) ≡ true = sym (c .if-not-fits .ensures tt) in
     let l = layout (meaning (c .args .message)) in
     let front : take (c .lay-out .result) (c .lay-out .last .buffer) ≡ l =
-    rw (c .lay-out .ensures .size, c .lay-out .ensures .after) (take-at l (drop (length l) (c .args .buffer .now)) (length l) refl) in
+    rw (c .lay-out .ensures .0, c .lay-out .ensures .1) (take-at l (drop (length l) (c .args .buffer .now)) (length l) refl) in
     record {
-      answer = rw (long, fits) (ap Ok (c .lay-out .ensures .size));
-      after = rw (long, fits) (c .lay-out .ensures .after);
+      answer = rw (long, fits) (ap Ok (c .lay-out .ensures .0));
+      after = rw (long, fits) (c .lay-out .ensures .1);
       reads-back = ap reading front ∙ back (meaning (c .args .message)) fits;
     }
