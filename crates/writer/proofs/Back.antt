@@ -98,13 +98,13 @@ size-back (content.released destination source cause) h = lit≤ tt
 size-back (content.release-complete destination source) h = lit≤ tt
 size-back (content.data-form-1 destination more segment) h =
     let a = and-parts (reference-fits destination) _ h in
-    let s : length segment ≤ 255 = leb-true (length segment) 255 (and-parts _ _ (a .1) .1) in
+    let s : length segment ≤ 255 = leb-true (length segment) 255 (and-parts (leb 1 (length segment)) _ (a .1) .1) in
     omega arith
 size-back (content.data-form-2 destination send receive more segment) h =
     let a = and-parts (reference-fits destination) _ h in
     let b = and-parts (leb send 127) _ (a .1) in
     let c = and-parts (leb receive 127) _ (b .1) in
-    let s : length segment ≤ 255 = leb-true (length segment) 255 (and-parts _ _ (c .1) .1) in
+    let s : length segment ≤ 255 = leb-true (length segment) 255 (and-parts (leb 1 (length segment)) _ (c .1) .1) in
     omega arith
 size-back (content.data-acknowledgement destination receive credit) h = lit≤ tt
 size-back (content.reset-request destination source cause) h = lit≤ tt

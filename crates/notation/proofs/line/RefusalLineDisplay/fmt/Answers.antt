@@ -2,7 +2,8 @@
 use mathlib.Core.Path.{ap, _∙_}
 use Rattle.std.proofs.Writes.{shows-is}
 use Rattle.std.specs.declared.option.Option.the-variants.{Some}
-use Rattle.notation.specs.Lines.{refusal-line, layer-number, field, last}
+use Rattle.message.specs.Refusals.{layer-number}
+use Rattle.notation.specs.Lines.{refusal-line, field, last}
 use Rattle.notation.proofs.line.RefusalLineDisplay.fmt.Needs as need
 
 pub returns : need.returns
