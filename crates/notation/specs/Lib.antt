@@ -3,3 +3,4 @@ pub mod Stages
 pub mod Text
 pub mod Capitals
 pub mod Lines
+pub mod Description

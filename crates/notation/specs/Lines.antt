@@ -7,10 +7,8 @@ use Rattle.std.specs.declared.result.Result.{Result}
 use Rattle.std.specs.declared.result.Result.the-variants.{Ok, Err}
 use Rattle.std.specs.Written.{decimal}
 use Rattle.message.specs.Layout.{more-octet}
-use Rattle.message.specs.Meaning.{class-number, credit-number, error-number}
 use Rattle.message.specs.Refusals.{number, layer, layer-number}
-use Rattle.message.specs.declared.content.Message.{Message}
-use Rattle.message.specs.declared.content.Message.the-variants.{ConnectionRequest, ConnectionConfirm, ConnectionRefused, Released, ReleaseComplete, DataForm1, DataForm2, DataAcknowledgement, ResetRequest, ResetConfirm, Error}
+use Rattle.message.specs.Content.{Content, connection-request, connection-confirm, connection-refused, released, release-complete, data-form-1, data-form-2, data-acknowledgement, reset-request, reset-confirm, error}
 use Rattle.message.specs.declared.fault.Fault.{Fault}
 use Rattle.notation.specs.Capitals.{capitals}
 
@@ -23,28 +21,25 @@ abbrev pub field : String → ℕ → List ℕ → List ℕ
 field name n others = codes name ++ (decimal n ++ others)
 
 -- the line of a message: its name and its fields, with the data in capital hex digits
-abbrev pub line : Message → List ℕ
-line (ConnectionRequest source class subsystem) =
-    field "CR source=" (source .0) (field " class=" (class-number class) (field " subsystem=" (subsystem .0) (last " credit=" (credit-number class))))
-line (ConnectionConfirm destination source class) =
-    field "CC destination=" (destination .0) (field " source=" (source .0) (field " class=" (class-number class) (last " credit=" (credit-number class))))
-line (ConnectionRefused destination cause) = field "CREF destination=" (destination .0) (last " cause=" (cause .0))
-line (Released destination source cause) = field "RLSD destination=" (destination .0) (field " source=" (source .0) (last " cause=" (cause .0)))
-line (ReleaseComplete destination source) = field "RLC destination=" (destination .0) (last " source=" (source .0))
-line (DataForm1 destination more octets) =
-    field "DT1 destination=" (destination .0) (field " more=" (more-octet more) (codes " data=" ++ capitals (octets .now)))
-line (DataForm2 destination send receive more octets) =
-    field "DT2 destination=" (destination .0) (field " ps=" (send .0) (field " pr=" (receive .0) (field " more=" (more-octet more) (codes " data=" ++ capitals (octets .now)))))
-line (DataAcknowledgement destination receive credit) = field "AK destination=" (destination .0) (field " pr=" (receive .0) (last " credit=" (credit .0)))
-line (ResetRequest destination source cause) = field "RSR destination=" (destination .0) (field " source=" (source .0) (last " cause=" (cause .0)))
-line (ResetConfirm destination source) = field "RSC destination=" (destination .0) (last " source=" (source .0))
-line (Error destination cause) = field "ERR destination=" (destination .0) (last " cause=" (error-number cause))
+abbrev pub line : Content → List ℕ
+line (connection-request source class credit subsystem) = field "CR source=" source (field " class=" class (field " subsystem=" subsystem (last " credit=" credit)))
+line (connection-confirm destination source class credit) = field "CC destination=" destination (field " source=" source (field " class=" class (last " credit=" credit)))
+line (connection-refused destination cause) = field "CREF destination=" destination (last " cause=" cause)
+line (released destination source cause) = field "RLSD destination=" destination (field " source=" source (last " cause=" cause))
+line (release-complete destination source) = field "RLC destination=" destination (last " source=" source)
+line (data-form-1 destination more octets) = field "DT1 destination=" destination (field " more=" (more-octet more) (codes " data=" ++ capitals octets))
+line (data-form-2 destination send receive more octets) =
+    field "DT2 destination=" destination (field " ps=" send (field " pr=" receive (field " more=" (more-octet more) (codes " data=" ++ capitals octets))))
+line (data-acknowledgement destination receive credit) = field "AK destination=" destination (field " pr=" receive (last " credit=" credit))
+line (reset-request destination source cause) = field "RSR destination=" destination (field " source=" source (last " cause=" cause))
+line (reset-confirm destination source) = field "RSC destination=" destination (last " source=" source)
+line (error destination cause) = field "ERR destination=" destination (last " cause=" cause)
 
 -- the line of a refusal
 abbrev pub refusal-line : Fault → List ℕ
 refusal-line fault = field "refused number=" (number (fault .refusal)) (field " layer=" (layer-number (layer (fault .refusal))) (last " place=" (fault .place)))
 
 -- the line of what octets are read as
-abbrev pub answer-line : Result Message Fault → List ℕ
-answer-line (Ok message) = line message
+abbrev pub answer-line : Result Content Fault → List ℕ
+answer-line (Ok content) = line content
 answer-line (Err fault) = refusal-line fault

@@ -3,6 +3,7 @@ ghost use mathlib.Core.Path.{_≡_};
 ghost use Rattle.notation.specs.Text.{octets-of, Reads};
 ghost use Rattle.notation.specs.declared.hex.HexFault.the-variants.{Memory};
 use crate::stage::Stage;
+use std::alloc::AllocError;
 use std::alloc::Global;
 use std::alloc::Refused;
 use std::fmt;
@@ -35,6 +36,14 @@ pub impl fmt::Display for HexFault as HexFaultDisplay {
             }
             HexFault::Memory => f.write_str("out of memory"),
         }
+    }
+}
+
+pub impl From<AllocError> for HexFault as HexFaultFromAlloc {
+    ghost converts = { λ _ r. r ≡ Memory };
+
+    fn from(_error: AllocError) -> HexFault {
+        HexFault::Memory
     }
 }
 

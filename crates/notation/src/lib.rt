@@ -1,4 +1,5 @@
 // How octets, messages and refusals are written as text.
+pub mod description;
 pub mod hex;
 pub mod line;
 pub mod octets;

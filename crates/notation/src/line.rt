@@ -1,7 +1,7 @@
 // Messages and refusals written as lines of text.
 ghost use mathlib.Core.Path.{_≡_};
 ghost use Rattle.std.specs.declared.option.Option.the-variants.{Some};
-ghost use Rattle.message.specs.Meaning.{class-number, credit-number, error-number};
+ghost use Rattle.message.specs.Meaning.{meaning, means, class-number, credit-number, error-number};
 ghost use Rattle.message.specs.Refusals.{layer-number};
 ghost use Rattle.notation.specs.Lines.{line, refusal-line, answer-line};
 use crate::octets::Hex;
@@ -18,7 +18,7 @@ use std::fmt;
 pub struct Line<'a>(pub Message<'a>);
 
 pub impl fmt::Display for Line<'_> as LineDisplay {
-    ghost shown = { λ it. Some (line (it .0)) };
+    ghost shown = { λ it. Some (line (meaning (it .0))) };
 
     fn fmt<W: fmt::Write>(&self, f: &mut fmt::Formatter<W>) -> fmt::Result {
         match self.0 {
@@ -150,7 +150,7 @@ pub impl fmt::Display for RefusalLine as RefusalLineDisplay {
 pub struct AnswerLine<'a>(pub Result<Message<'a>, Fault>);
 
 pub impl fmt::Display for AnswerLine<'_> as AnswerLineDisplay {
-    ghost shown = { λ it. Some (answer-line (it .0)) };
+    ghost shown = { λ it. Some (answer-line (means (it .0))) };
 
     fn fmt<W: fmt::Write>(&self, f: &mut fmt::Formatter<W>) -> fmt::Result {
         match self.0 {

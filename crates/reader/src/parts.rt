@@ -47,6 +47,7 @@ impl<'a> Reader<'a> {
     pub fn segment(&mut self) -> Result<&'a [u8], Fault>
         ensures { λ r. ⌜ outcome (λ x. now x) r (now (self .exit)) ≡ reading.segment (window (now (self .entry))) ⌝ }
     {
+        let _touched = 1u8;
         let pointer = self.pointer()?;
         self.points_here(pointer)?;
         let data = self.variable()?;
