@@ -1,10 +1,7 @@
 // What one line of input comes to.
-use notation::hex::HexFault;
-use notation::hex::HexFaultDisplay;
-use notation::hex::parse;
-use notation::line::AnswerLine;
-use notation::line::AnswerLineDisplay;
-use reader::read;
+use hex::text::HexFault;
+use hex::text::HexFaultDisplay;
+use notation::description::describe;
 use std::alloc::AllocError;
 use std::alloc::Global;
 
@@ -19,13 +16,10 @@ pub enum Reply {
     Fault(String),
 }
 
-// Reads the octets in front of a comment, and the message in them.
-pub fn answer(heap: Global, line: &str) -> Result<Reply, AllocError> {
-    match parse(heap, before_comment(line)) {
-        Ok(octets) => {
-            let line = AnswerLine(read(octets.as_slice()));
-            Ok(Reply::Answer(line.to_string(heap)?))
-        }
+// Describes the message in front of a comment.
+pub(crate) fn answer(heap: Global, line: &str) -> Result<Reply, AllocError> {
+    match describe(heap, before_comment(line)) {
+        Ok(line) => Ok(Reply::Answer(line)),
         Err(HexFault::Nothing) => Ok(Reply::Nothing),
         Err(HexFault::Memory) => Err(AllocError),
         Err(fault) => Ok(Reply::Fault(fault.to_string(heap)?)),

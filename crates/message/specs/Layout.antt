@@ -26,17 +26,17 @@ credit-part class credit distance between = cond (eqb class 3) (distance ∷ bet
 
 -- the octets of a message
 abbrev pub layout : Content → List ℕ
-layout (connection-request source class credit subsystem) = 1 ∷ reference-octets source ++ class ∷ 2 ∷ credit-part class credit 4 (2 ∷ 66 ∷ subsystem ∷ [])
-layout (connection-confirm destination source class credit) = 2 ∷ reference-octets destination ++ reference-octets source ++ class ∷ credit-part class credit 1 []
-layout (connection-refused destination cause) = 3 ∷ reference-octets destination ++ cause ∷ 0 ∷ []
-layout (released destination source cause) = 4 ∷ reference-octets destination ++ reference-octets source ++ cause ∷ 0 ∷ []
-layout (release-complete destination source) = 5 ∷ reference-octets destination ++ reference-octets source
-layout (data-form-1 destination more octets) = 6 ∷ reference-octets destination ++ more-octet more ∷ 1 ∷ length octets ∷ octets
-layout (data-form-2 destination send receive more octets) = 7 ∷ reference-octets destination ++ (send * 2) ∷ (receive * 2 + more-octet more) ∷ 1 ∷ length octets ∷ octets
-layout (data-acknowledgement destination receive credit) = 8 ∷ reference-octets destination ++ (receive * 2) ∷ credit ∷ []
-layout (reset-request destination source cause) = 13 ∷ reference-octets destination ++ reference-octets source ++ cause ∷ []
-layout (reset-confirm destination source) = 14 ∷ reference-octets destination ++ reference-octets source
-layout (error destination cause) = 15 ∷ reference-octets destination ++ cause ∷ []
+layout (connection-request source class credit subsystem) = 0x01 ∷ reference-octets source ++ class ∷ 2 ∷ credit-part class credit 4 (2 ∷ 0x42 ∷ subsystem ∷ [])
+layout (connection-confirm destination source class credit) = 0x02 ∷ reference-octets destination ++ reference-octets source ++ class ∷ credit-part class credit 1 []
+layout (connection-refused destination cause) = 0x03 ∷ reference-octets destination ++ cause ∷ 0 ∷ []
+layout (released destination source cause) = 0x04 ∷ reference-octets destination ++ reference-octets source ++ cause ∷ 0 ∷ []
+layout (release-complete destination source) = 0x05 ∷ reference-octets destination ++ reference-octets source
+layout (data-form-1 destination more octets) = 0x06 ∷ reference-octets destination ++ more-octet more ∷ 1 ∷ length octets ∷ octets
+layout (data-form-2 destination send receive more octets) = 0x07 ∷ reference-octets destination ++ (send * 2) ∷ (receive * 2 + more-octet more) ∷ 1 ∷ length octets ∷ octets
+layout (data-acknowledgement destination receive credit) = 0x08 ∷ reference-octets destination ++ (receive * 2) ∷ credit ∷ []
+layout (reset-request destination source cause) = 0x0D ∷ reference-octets destination ++ reference-octets source ++ cause ∷ []
+layout (reset-confirm destination source) = 0x0E ∷ reference-octets destination ++ reference-octets source
+layout (error destination cause) = 0x0F ∷ reference-octets destination ++ cause ∷ []
 
 -- Which octet strings are laid out as a message
 
@@ -67,30 +67,30 @@ Has-credit class credit found =
 -- V counts the octets from itself to the variable part: 2 where O stands between, otherwise 1
 abbrev pub Laid-out : Content → List ℕ → Type 0
 Laid-out (connection-request source class credit subsystem) octets =
-    (s rest : List ℕ) × (found : Option ℕ) × (octets ≡ 1 ∷ s ++ class ∷ 2 ∷ rest) × Is-reference source s
-    × Points true (2 ∷ 66 ∷ subsystem ∷ []) found rest × (1 ≤ subsystem) × Has-credit class credit found
+    (s rest : List ℕ) × (found : Option ℕ) × (octets ≡ 0x01 ∷ s ++ class ∷ 2 ∷ rest) × Is-reference source s
+    × Points true (2 ∷ 0x42 ∷ subsystem ∷ []) found rest × (1 ≤ subsystem) × Has-credit class credit found
 Laid-out (connection-confirm destination source class credit) octets =
-    (d s rest : List ℕ) × (found : Option ℕ) × (octets ≡ 2 ∷ d ++ (s ++ class ∷ rest)) × Is-reference destination d × Is-reference source s
+    (d s rest : List ℕ) × (found : Option ℕ) × (octets ≡ 0x02 ∷ d ++ (s ++ class ∷ rest)) × Is-reference destination d × Is-reference source s
     × Points true [] found rest × Has-credit class credit found
 Laid-out (connection-refused destination cause) octets =
-    (d rest : List ℕ) × (found : Option ℕ) × (octets ≡ 3 ∷ d ++ cause ∷ rest) × Is-reference destination d × (cause ≤ 15) × Points false [] found rest
+    (d rest : List ℕ) × (found : Option ℕ) × (octets ≡ 0x03 ∷ d ++ cause ∷ rest) × Is-reference destination d × (cause ≤ 15) × Points false [] found rest
 Laid-out (released destination source cause) octets =
-    (d s rest : List ℕ) × (found : Option ℕ) × (octets ≡ 4 ∷ d ++ (s ++ cause ∷ rest)) × Is-reference destination d × Is-reference source s
+    (d s rest : List ℕ) × (found : Option ℕ) × (octets ≡ 0x04 ∷ d ++ (s ++ cause ∷ rest)) × Is-reference destination d × Is-reference source s
     × (cause ≤ 15) × Points false [] found rest
 Laid-out (release-complete destination source) octets =
-    (d s : List ℕ) × (octets ≡ 5 ∷ d ++ s) × Is-reference destination d × Is-reference source s
+    (d s : List ℕ) × (octets ≡ 0x05 ∷ d ++ s) × Is-reference destination d × Is-reference source s
 Laid-out (data-form-1 destination more segment) octets =
-    (d : List ℕ) × (octets ≡ 6 ∷ d ++ more-octet more ∷ 1 ∷ length segment ∷ segment) × Is-reference destination d × (1 ≤ length segment)
+    (d : List ℕ) × (octets ≡ 0x06 ∷ d ++ more-octet more ∷ 1 ∷ length segment ∷ segment) × Is-reference destination d × (1 ≤ length segment)
 Laid-out (data-form-2 destination send receive more segment) octets =
-    (d : List ℕ) × (octets ≡ 7 ∷ d ++ (send * 2) ∷ (receive * 2 + more-octet more) ∷ 1 ∷ length segment ∷ segment) × Is-reference destination d × (1 ≤ length segment)
+    (d : List ℕ) × (octets ≡ 0x07 ∷ d ++ (send * 2) ∷ (receive * 2 + more-octet more) ∷ 1 ∷ length segment ∷ segment) × Is-reference destination d × (1 ≤ length segment)
 Laid-out (data-acknowledgement destination receive credit) octets =
-    (d : List ℕ) × (octets ≡ 8 ∷ d ++ (receive * 2) ∷ credit ∷ []) × Is-reference destination d × (1 ≤ credit) × (credit ≤ 127)
+    (d : List ℕ) × (octets ≡ 0x08 ∷ d ++ (receive * 2) ∷ credit ∷ []) × Is-reference destination d × (1 ≤ credit) × (credit ≤ 127)
 Laid-out (reset-request destination source cause) octets =
-    (d s : List ℕ) × (octets ≡ 13 ∷ d ++ (s ++ cause ∷ [])) × Is-reference destination d × Is-reference source s × (cause ≤ 15)
+    (d s : List ℕ) × (octets ≡ 0x0D ∷ d ++ (s ++ cause ∷ [])) × Is-reference destination d × Is-reference source s × (cause ≤ 15)
 Laid-out (reset-confirm destination source) octets =
-    (d s : List ℕ) × (octets ≡ 14 ∷ d ++ s) × Is-reference destination d × Is-reference source s
+    (d s : List ℕ) × (octets ≡ 0x0E ∷ d ++ s) × Is-reference destination d × Is-reference source s
 Laid-out (error destination cause) octets =
-    (d : List ℕ) × (octets ≡ 15 ∷ d ++ cause ∷ []) × Is-reference destination d × (cause ≤ 4)
+    (d : List ℕ) × (octets ≡ 0x0F ∷ d ++ cause ∷ []) × Is-reference destination d × (cause ≤ 4)
 
 -- an octet string is a message with this content: it is laid out so, and has at most 268 octets
 abbrev pub Is-message : Content → List ℕ → Type 0

@@ -8,8 +8,8 @@ use Rattle.std.specs.declared.result.Result.the-variants.{Ok, Err}
 use Rattle.std.specs.declared.string.String.{String}
 use Rattle.std.specs.Of.String.{string-bytes}
 use Rattle.reader.specs.Reading.{reading}
-use Rattle.notation.specs.declared.hex.HexFault.{HexFault}
-use Rattle.notation.specs.declared.hex.HexFault.the-variants.{Nothing, NoDigit, LoneDigit, BehindDash, Memory}
+use Rattle.hex.specs.declared.text.HexFault.{HexFault}
+use Rattle.hex.specs.declared.text.HexFault.the-variants.{Nothing, NoDigit, LoneDigit, BehindDash, Memory}
 use Rattle.notation.specs.Lines.{answer-line}
 
 -- the line of what the octets of the text mean, or the fault of the text; want of memory apart

@@ -1,6 +1,2 @@
-pub mod Digits
-pub mod Stages
-pub mod Text
-pub mod Capitals
 pub mod Lines
 pub mod Description

@@ -10,7 +10,7 @@ use Rattle.message.specs.Layout.{more-octet}
 use Rattle.message.specs.Refusals.{number, layer, layer-number}
 use Rattle.message.specs.Content.{Content, connection-request, connection-confirm, connection-refused, released, release-complete, data-form-1, data-form-2, data-acknowledgement, reset-request, reset-confirm, error}
 use Rattle.message.specs.declared.fault.Fault.{Fault}
-use Rattle.notation.specs.Capitals.{capitals}
+use Rattle.hex.specs.Capitals.{capitals}
 
 -- the last field: a name and a number
 abbrev pub last : String → ℕ → List ℕ

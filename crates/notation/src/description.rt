@@ -1,11 +1,11 @@
 // A message that is given as hex text, described in one line.
 ghost use Rattle.notation.specs.Description.{Describes};
-ghost use Rattle.notation.specs.Text.{octets-of};
-use crate::hex::HexFault;
-use crate::hex::HexFaultFromAlloc;
-use crate::hex::parse;
+ghost use Rattle.hex.specs.Text.{octets-of};
 use crate::line::AnswerLine;
 use crate::line::AnswerLineDisplay;
+use hex::text::HexFault;
+use hex::text::HexFaultFromAlloc;
+use hex::text::parse;
 use reader::read;
 use std::alloc::Global;
 

@@ -1,6 +1,3 @@
-// How octets, messages and refusals are written as text.
+// Messages and refusals as lines of text.
 pub mod description;
-pub mod hex;
 pub mod line;
-pub mod octets;
-mod stage;

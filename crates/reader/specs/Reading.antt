@@ -84,12 +84,12 @@ variable = do
   place ← here
   counted VariablePart place
 
--- the called address: 42 (hexadecimal), and a subsystem number that is not 0
+-- the called address: 42, and a subsystem number that is not 0
 unfoldable pub called-address : Read ℕ
 called-address = do
   place ← here
   part ← variable
-  choose (eqb (length part) 2 && (eqb (getD part 0 0) 66 && leb 1 (getD part 1 0))) (give (getD part 1 0)) (refuse VariablePart place)
+  choose (eqb (length part) 2 && (eqb (getD part 0 0) 0x42 && leb 1 (getD part 1 0))) (give (getD part 1 0)) (refuse VariablePart place)
 
 -- V and a segment's data straight behind it, which end the message
 unfoldable pub segment : Read (List ℕ)
@@ -114,7 +114,7 @@ called-party = do
 -- the credit known after a parameter: where a credit is due, name 09 is one, of length 1, and no second one; any other parameter is stepped over
 unfoldable pub credit-after : Bool → Option ℕ → ℕ → ℕ → List ℕ → Result (Option ℕ) Fault
 credit-after due found named name part =
-    cond (due && eqb name 9)
+    cond (due && eqb name 0x09)
     (cond (isSome found || not (eqb (length part) 1)) (Err (record { refusal = OptionalPart; place = named })) (Ok (Some (getD part 0 0))))
     (Ok found)
 
@@ -266,17 +266,17 @@ error = do
 -- the message of a type, behind its type octet
 abbrev pub message-of : ℕ → Read Content
 message-of type =
-    choose (eqb type 1) connection-request
-    (choose (eqb type 2) connection-confirm
-    (choose (eqb type 3) connection-refused
-    (choose (eqb type 4) released
-    (choose (eqb type 5) release-complete
-    (choose (eqb type 6) data-form-1
-    (choose (eqb type 7) data-form-2
-    (choose (eqb type 8) data-acknowledgement
-    (choose (eqb type 13) reset-request
-    (choose (eqb type 14) reset-confirm
-    (choose (eqb type 15) error
+    choose (eqb type 0x01) connection-request
+    (choose (eqb type 0x02) connection-confirm
+    (choose (eqb type 0x03) connection-refused
+    (choose (eqb type 0x04) released
+    (choose (eqb type 0x05) release-complete
+    (choose (eqb type 0x06) data-form-1
+    (choose (eqb type 0x07) data-form-2
+    (choose (eqb type 0x08) data-acknowledgement
+    (choose (eqb type 0x0D) reset-request
+    (choose (eqb type 0x0E) reset-confirm
+    (choose (eqb type 0x0F) error
     (refuse UnknownType 0)))))))))))
 
 -- the value alone

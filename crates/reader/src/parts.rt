@@ -15,7 +15,7 @@ use message::fault::Refusal;
 use message::kind;
 
 impl<'a> Reader<'a> {
-    pub fn points_here(&mut self, pointer: Pointer) -> Result<(), Fault>
+    pub(crate) fn points_here(&mut self, pointer: Pointer) -> Result<(), Fault>
         ensures { λ r. ⌜ outcome nothing r (now (self .exit)) ≡ reading.points-here (pointer .place, pointer .distance) (window (now (self .entry))) ⌝ }
     {
         if self.at < pointer.place || self.at - pointer.place != pointer.distance as usize {
@@ -24,7 +24,7 @@ impl<'a> Reader<'a> {
         Ok(())
     }
 
-    pub fn variable(&mut self) -> Result<&'a [u8], Fault>
+    pub(crate) fn variable(&mut self) -> Result<&'a [u8], Fault>
         ensures { λ r. ⌜ outcome (λ x. now x) r (now (self .exit)) ≡ reading.variable (window (now (self .entry))) ⌝ }
     {
         let place = self.at;
@@ -32,7 +32,7 @@ impl<'a> Reader<'a> {
     }
 
     // 42 (hexadecimal) and a subsystem number that is not 0.
-    pub fn called_address(&mut self) -> Result<Subsystem, Fault>
+    pub(crate) fn called_address(&mut self) -> Result<Subsystem, Fault>
         ensures { λ r. ⌜ outcome (λ x. x .0) r (now (self .exit)) ≡ reading.called-address (window (now (self .entry))) ⌝ }
     {
         let place = self.at;
@@ -44,7 +44,7 @@ impl<'a> Reader<'a> {
     }
 
     // V and a segment's data straight behind it, which end the message.
-    pub fn segment(&mut self) -> Result<&'a [u8], Fault>
+    pub(crate) fn segment(&mut self) -> Result<&'a [u8], Fault>
         ensures { λ r. ⌜ outcome (λ x. now x) r (now (self .exit)) ≡ reading.segment (window (now (self .entry))) ⌝ }
     {
         let _touched = 1u8;
@@ -56,7 +56,7 @@ impl<'a> Reader<'a> {
     }
 
     // V, O and the called address straight behind them: the subsystem, and O.
-    pub fn called_party(&mut self) -> Result<(Subsystem, Pointer), Fault>
+    pub(crate) fn called_party(&mut self) -> Result<(Subsystem, Pointer), Fault>
         ensures { λ r. ⌜ outcome (λ x. (x .0 .0, (x .1 .place, x .1 .distance))) r (now (self .exit)) ≡ reading.called-party (window (now (self .entry))) ⌝ }
     {
         let variable = self.pointer()?;
@@ -67,7 +67,7 @@ impl<'a> Reader<'a> {
     }
 
     // What O points to: nothing where it is 00, otherwise an optional part. Answers the credit found in it.
-    pub fn optional_part(&mut self, due: bool, pointer: Pointer) -> Result<Option<u8>, Fault>
+    pub(crate) fn optional_part(&mut self, due: bool, pointer: Pointer) -> Result<Option<u8>, Fault>
         ensures { λ r. ⌜ outcome (λ x. x) r (now (self .exit)) ≡ reading.optional-part due (pointer .place, pointer .distance) (window (now (self .entry))) ⌝ }
     {
         if pointer.distance == 0 {
@@ -114,7 +114,7 @@ fn credit_after(
 }
 
 // Class 2 has no credit, class 3 one of 1 to 127.
-pub fn agreed(place: usize, class: u8, found: Option<u8>) -> Result<ProtocolClass, Fault>
+pub(crate) fn agreed(place: usize, class: u8, found: Option<u8>) -> Result<ProtocolClass, Fault>
     ensures { λ r. ⌜ classes r ≡ reading.agreed place class found ⌝ }
 {
     match found {

@@ -7,7 +7,7 @@ use lib.Chars.{codes}
 use mir.Val.{boolByte}
 use Rattle.std.proofs.Writes.{shows-is}
 use Rattle.std.specs.declared.option.Option.the-variants.{Some}
-use Rattle.notation.specs.Capitals.{capitals}
+use Rattle.hex.specs.Capitals.{capitals}
 use Rattle.message.specs.Meaning.{meaning}
 use Rattle.notation.specs.Lines.{line, field, last}
 use Rattle.notation.proofs.line.LineDisplay.fmt.Needs as need

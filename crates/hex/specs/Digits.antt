@@ -4,8 +4,8 @@ use Prim.Native.Nat.{ℕ, _+_, _-_}
 use lib.Dec.{eqb, leb}
 use Rattle.std.specs.declared.result.Result.{Result}
 use Rattle.std.specs.declared.result.Result.the-variants.{Ok, Err}
-use Rattle.notation.specs.declared.hex.HexFault.{HexFault}
-use Rattle.notation.specs.declared.hex.HexFault.the-variants.{NoDigit, LoneDigit}
+use Rattle.hex.specs.declared.text.HexFault.{HexFault}
+use Rattle.hex.specs.declared.text.HexFault.the-variants.{NoDigit, LoneDigit}
 
 -- a space, a tab or a carriage return
 abbrev pub blank : ℕ → Bool

@@ -8,10 +8,10 @@ use Rattle.std.proofs.Told.{chosen}
 use Rattle.std.proofs.shelf.Results.{err-from-errBy}
 use Rattle.std.specs.Of.Vec.{vec-items}
 use Rattle.std.specs.Results.{isOk}
-use Rattle.notation.specs.Stages.{next-stage}
-use Rattle.notation.proofs.Runs.{Sofar, ending, none-ends, starts, goes-on, stops, ends, ends-badly}
-use Rattle.notation.proofs.hex.parse.Needs as need
-use Rattle.notation.proofs.hex.parse.Needs.{in-Octet·in-Continue-push, in-rest}
+use Rattle.hex.specs.Stages.{next-stage}
+use Rattle.hex.proofs.Runs.{Sofar, ending, none-ends, starts, goes-on, stops, ends, ends-badly}
+use Rattle.hex.proofs.text.parse.Needs as need
+use Rattle.hex.proofs.text.parse.Needs.{in-Octet·in-Continue-push, in-rest}
 
 pub loop-place-holds : need.loop-place-holds
 loop-place-holds c = starts (c .args .text .now) _ (c .new-octets .ensures .items)

@@ -1,7 +1,7 @@
 use lib.ListN.{take}
 use Rattle.std.specs.Written.{Plain, Put}
-use Rattle.notation.specs.Capitals.{capitals}
-use Rattle.notation.proofs.octets.HexDisplay.fmt.Given as given
+use Rattle.hex.specs.Capitals.{capitals}
+use Rattle.hex.proofs.octets.HexDisplay.fmt.Given as given
 
 -- the octets so far are written
 abbrev pub Inv-loop-octet : given.InvT-loop-octet

@@ -10,13 +10,13 @@ use Rattle.std.proofs.shelf.Lists.{at-drop-more, at-drop-all}
 use Rattle.std.proofs.shelf.Tests.{eqb-true, or-from}
 use Rattle.std.specs.declared.result.Result.{Result}
 use Rattle.std.specs.declared.result.Result.the-variants.{Ok, Err}
-use Rattle.notation.specs.declared.hex.HexFault.{HexFault}
-use Rattle.notation.specs.declared.hex.HexFault.the-variants.{Nothing, NoDigit, LoneDigit, BehindDash, Memory}
-use Rattle.notation.specs.declared.stage.Stage.{Stage}
-use Rattle.notation.specs.declared.stage.Stage.the-variants.{Start, Dash, Half, Octet, Gap}
-use Rattle.notation.specs.Digits.{blank, gap, digit-at, second-at}
-use Rattle.notation.specs.Stages.{Small, next-stage, last-stage, half, whole}
-use Rattle.notation.specs.Text.{before, pair, octets-from, blanks-from, text-from, octets-of, Reads}
+use Rattle.hex.specs.declared.text.HexFault.{HexFault}
+use Rattle.hex.specs.declared.text.HexFault.the-variants.{Nothing, NoDigit, LoneDigit, BehindDash, Memory}
+use Rattle.hex.specs.declared.stage.Stage.{Stage}
+use Rattle.hex.specs.declared.stage.Stage.the-variants.{Start, Dash, Half, Octet, Gap}
+use Rattle.hex.specs.Digits.{blank, gap, digit-at, second-at}
+use Rattle.hex.specs.Stages.{Small, next-stage, last-stage, half, whole}
+use Rattle.hex.specs.Text.{before, pair, octets-from, blanks-from, text-from, octets-of, Reads}
 
 abbrev pub Said : Type 0
 Said = Result (List ℕ) HexFault

@@ -2,7 +2,7 @@
 ghost use Prim.Native.Nat.{_<_};
 ghost use mathlib.Core.Path.{_≡_};
 ghost use Rattle.std.specs.declared.option.Option.the-variants.{Some};
-ghost use Rattle.notation.specs.Capitals.{capital, capitals};
+ghost use Rattle.hex.specs.Capitals.{capital, capitals};
 use std::fmt;
 
 // Octets that are shown as two capital hex digits each, with nothing between.

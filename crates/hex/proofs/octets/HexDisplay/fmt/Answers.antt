@@ -4,9 +4,9 @@ use native.Mathlib.Omega.{arith}
 use Rattle.std.proofs.Writes.{put-is, wrote-none}
 use Rattle.std.proofs.shelf.Lists.{take-all}
 use Rattle.std.specs.Results.{isOk}
-use Rattle.notation.specs.Capitals.{capitals}
-use Rattle.notation.proofs.Writing.{octet-more}
-use Rattle.notation.proofs.octets.HexDisplay.fmt.Needs as need
+use Rattle.hex.specs.Capitals.{capitals}
+use Rattle.hex.proofs.Writing.{octet-more}
+use Rattle.hex.proofs.octets.HexDisplay.fmt.Needs as need
 
 pub loop-octet-holds : need.loop-octet-holds
 loop-octet-holds g c = λ plain. record { wrote = wrote-none (g .W·Write .took) (c .args .f .now .writer); plain = plain }

@@ -4,11 +4,11 @@ use Prim.Native.Nat.{ℕ, _+_, _*_, _<_}
 use lib.Dec.{eqb}
 use Rattle.std.specs.declared.result.Result.{Result}
 use Rattle.std.specs.declared.result.Result.the-variants.{Ok, Err}
-use Rattle.notation.specs.declared.hex.HexFault.{HexFault}
-use Rattle.notation.specs.declared.hex.HexFault.the-variants.{Nothing, LoneDigit, BehindDash}
-use Rattle.notation.specs.declared.stage.Stage.{Stage}
-use Rattle.notation.specs.declared.stage.Stage.the-variants.{Start, Dash, Half, Octet, Gap}
-use Rattle.notation.specs.Digits.{blank, gap, digit-at, second-at}
+use Rattle.hex.specs.declared.text.HexFault.{HexFault}
+use Rattle.hex.specs.declared.text.HexFault.the-variants.{Nothing, LoneDigit, BehindDash}
+use Rattle.hex.specs.declared.stage.Stage.{Stage}
+use Rattle.hex.specs.declared.stage.Stage.the-variants.{Start, Dash, Half, Octet, Gap}
+use Rattle.hex.specs.Digits.{blank, gap, digit-at, second-at}
 
 -- a first digit is below 16
 abbrev pub Small : Stage → Type 0

@@ -1,7 +1,7 @@
 // Octets read from hex text.
 ghost use mathlib.Core.Path.{_≡_};
-ghost use Rattle.notation.specs.Text.{octets-of, Reads};
-ghost use Rattle.notation.specs.declared.hex.HexFault.the-variants.{Memory};
+ghost use Rattle.hex.specs.Text.{octets-of, Reads};
+ghost use Rattle.hex.specs.declared.text.HexFault.the-variants.{Memory};
 use crate::stage::Stage;
 use std::alloc::AllocError;
 use std::alloc::Global;

@@ -12,7 +12,7 @@ use Rattle.std.proofs.shelf.Lists.{take-more}
 use Rattle.std.proofs.shelf.Tests.{cond-both}
 use Rattle.std.specs.declared.fmt.Formatter.{Formatter}
 use Rattle.std.specs.Written.{Put}
-use Rattle.notation.specs.Capitals.{capital, capitals}
+use Rattle.hex.specs.Capitals.{capital, capitals}
 
 capitals-push : (octets : List ℕ) (octet : ℕ) → capitals (octets ++ octet ∷ []) ≡ capitals octets ++ (capital (octet / 16) ∷ capital (octet % 16) ∷ [])
 capitals-push [] octet = refl

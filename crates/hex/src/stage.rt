@@ -2,9 +2,9 @@
 ghost use Prim.Native.Nat.{_<_};
 ghost use mathlib.Core.Path.{_≡_};
 ghost use Rattle.std.specs.Vec.{made};
-ghost use Rattle.notation.specs.Digits.{blank, gap, digit-at};
-ghost use Rattle.notation.specs.Stages.{next-stage, last-stage, half, Small};
-use crate::hex::HexFault;
+ghost use Rattle.hex.specs.Digits.{blank, gap, digit-at};
+ghost use Rattle.hex.specs.Stages.{next-stage, last-stage, half, Small};
+use crate::text::HexFault;
 
 // What was read last.
 #[derive(Clone, Copy)]
@@ -23,7 +23,7 @@ pub enum Stage {
 
 impl Stage {
     // The stage behind one more character. Columns count from 1.
-    pub fn next(self, character: u8, column: usize) -> Result<Stage, HexFault>
+    pub(crate) fn next(self, character: u8, column: usize) -> Result<Stage, HexFault>
         requires { ⌜ Small self ⌝ }
         ensures value { λ r. ⌜ r ≡ next-stage self character column ⌝ }
         ensures small { λ r. ⌜ made r Small ⌝ }
@@ -66,7 +66,7 @@ impl Stage {
     }
 
     // Whether a text may end here.
-    pub fn end(self) -> Result<(), HexFault>
+    pub(crate) fn end(self) -> Result<(), HexFault>
         ensures { λ r. ⌜ r ≡ last-stage self ⌝ }
     {
         match self {

@@ -9,9 +9,9 @@ use Rattle.std.specs.declared.result.Result.{Result}
 use Rattle.std.specs.declared.result.Result.the-variants.{Ok, Err}
 use Rattle.std.specs.declared.vec.Vec.{Vec}
 use Rattle.std.specs.Of.Vec.{vec-items}
-use Rattle.notation.specs.declared.hex.HexFault.{HexFault}
-use Rattle.notation.specs.declared.hex.HexFault.the-variants.{Nothing, NoDigit, LoneDigit, BehindDash, Memory}
-use Rattle.notation.specs.Digits.{blank, gap, digit-at, second-at}
+use Rattle.hex.specs.declared.text.HexFault.{HexFault}
+use Rattle.hex.specs.declared.text.HexFault.the-variants.{Nothing, NoDigit, LoneDigit, BehindDash, Memory}
+use Rattle.hex.specs.Digits.{blank, gap, digit-at, second-at}
 
 -- an octet in front of the others
 abbrev pub before : ℕ → Result (List ℕ) HexFault → Result (List ℕ) HexFault

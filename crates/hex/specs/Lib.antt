@@ -1,0 +1,4 @@
+pub mod Digits
+pub mod Stages
+pub mod Text
+pub mod Capitals

@@ -1,0 +1,4 @@
+// Octets as hex text, both ways.
+pub mod octets;
+mod stage;
+pub mod text;
