@@ -21,6 +21,11 @@ pub const RESET_CONFIRM: u8 = 0x0e;
 
 pub const ERROR: u8 = 0x0f;
 
+// The protocol classes as they stand in CR and CC.
+pub const CLASS_2: u8 = 2;
+
+pub const CLASS_3: u8 = 3;
+
 // The most octets that a message has, and the fewest that a buffer for one has.
 pub const LARGEST_MESSAGE: usize = 268;
 

@@ -21,7 +21,7 @@ use Rattle.message.specs.Content as content
 use Rattle.message.specs.Content.{Content}
 use Rattle.reader.specs.Reading.{header, variable, segment, called-party, two-references, optional-part, connection-request, connection-confirm, connection-refused, released, release-complete, data-form-1, data-form-2, data-acknowledgement, reset-request, reset-confirm, error, message-of, value, reading}
 use Rattle.message.specs.Layout.{Is-reference, Is-optional, Points, Has-credit, Laid-out, Is-message, more-octet}
-use Rattle.reader.proofs.Fields.{rest, octet-takes, ends-takes, counted-takes, reference-takes, field-takes, sequence-takes, pointer-takes, points-takes, address-takes}
+use Rattle.reader.proofs.Fields.{rest, further, octet-takes, ends-takes, counted-takes, reference-takes, field-takes, sequence-takes, pointer-takes, points-takes, address-takes}
 use Rattle.reader.proofs.Optional.{optional-none, optional-takes, agreed-takes}
 
 -- all but the first octet
@@ -76,9 +76,6 @@ half-read receive false = omega arith
 bit-read : (receive : ℕ) (more : Bool) → eqb ((receive * 2 + more-octet more) % 2) 1 ≡ more
 bit-read receive true = eq-eqb _ _ (omega arith)
 bit-read receive false = ne-eqb _ _ (λ e. omega arith)
-
-further : (a b c m n : ℕ) → b ≡ a + m → c ≡ b + n → a + (m + n) ≡ c
-further a b c m n e f = omega arith
 
 segment-read : (w : Window) (octets : List ℕ) → 1 ≤ length octets → rest w ≡ 1 ∷ length octets ∷ octets → (v : Window) × (segment w ≡ Ok (octets, v))
 unfolding segment variable

@@ -17,7 +17,7 @@ use Rattle.message.specs.declared.fault.Refusal.the-variants.{CutShort, Variabl
 use Rattle.reader.specs.Window.{Window, then}
 use Rattle.reader.specs.Reading.{octet, ends, counted, reference, field, sequence-number, pointer, points-here, variable, called-address}
 use Rattle.message.specs.Layout.{Is-reference}
-use Rattle.reader.proofs.Steps.{moved, octet-gives, counted-gives}
+use Rattle.reader.proofs.Steps.{no-answer, moved, octet-gives, counted-gives}
 
 -- the octets from the place reached
 abbrev pub rest : Window → List ℕ
@@ -26,7 +26,7 @@ rest w = drop (w .place) (w .octets)
 -- a chain of steps that succeeds, step by step
 pub first : {A B : Type 0} (r : Result A Fault) (next : A → Result B Fault) (b : B) → then r next ≡ Ok b → (a : A) × (r ≡ Ok a) × (next a ≡ Ok b)
 first (Ok a) next b e = (a, refl, e)
-first (Err fault) next b e = absurd (let z : _≡_ {A = ℕ} 0 1 = cc in omega arith)
+first (Err fault) next b e = absurd (no-answer e)
 
 -- a list of two
 two : (xs : List ℕ) → length xs ≡ 2 → xs ≡ getD xs 0 0 ∷ getD xs 1 0 ∷ []
@@ -38,6 +38,10 @@ two (x ∷ y ∷ z ∷ xs) e = absurd (omega arith)
 -- the window behind so many octets
 abbrev pub Past : Window → ℕ → Window → Type 0
 Past w n v = (v .octets ≡ w .octets) × (v .place ≡ w .place + n)
+
+-- two moves on are one
+pub further : (a b c m n : ℕ) → b ≡ a + m → c ≡ b + n → a + (m + n) ≡ c
+further a b c m n e f = omega arith
 
 -- a step takes these octets in front of what is left, and gives this value
 abbrev pub Takes : {A : Type 0} → Result (A × Window) Fault → A → Window → List ℕ → ℕ → Type 0

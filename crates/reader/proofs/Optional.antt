@@ -19,7 +19,7 @@ use Rattle.message.specs.declared.fault.Refusal.the-variants.{VariablePart, Opt
 use Rattle.reader.specs.Window.{Window, then, lift}
 use Rattle.reader.specs.Reading.{octet, ends, counted, credit-after, parameters, any-parameters, points-here, optional-part, agreed}
 use Rattle.message.specs.Layout.{Is-optional, ended, with-credit, with-other, Has-credit}
-use Rattle.reader.proofs.Steps.{lift-gives}
+use Rattle.reader.proofs.Steps.{no-answer}
 use Rattle.reader.proofs.Fields.{rest, first, octet-front, octet-takes, ends-front, ends-takes, counted-front, counted-takes, points-front, points-takes}
 
 -- the credit of the whole, from the one found before and the one of the part itself: there are not two
@@ -52,7 +52,7 @@ parameter-front true found named name part known e = at found (eqb name 9) refl 
   where
     at : (found : Option ℕ) (b : Bool) → eqb name 9 ≡ b → credit-after true found named name part ≡ Ok known → Parameter true found name part known
     at found false n h = inr (let k = rw n at h in cc, λ t m. eqb-false name 9 n m)
-    at (Some x) true n h = absurd (let k = rw n at h in let z : _≡_ {A = ℕ} 0 1 = cc in omega arith)
+    at (Some x) true n h = absurd (no-answer (rw n at h))
     at None true n h = let k = rw n at h in
         let m : (length part ≡ 1) × (known ≡ Some (getD part 0 0)) = (grind (arith, tells), grind (arith, tells)) in
         inl (refl, eqb-true name 9 n, refl, m .0, m .1)
@@ -61,7 +61,7 @@ parameter-front true found named name part known e = at found (eqb name 9) refl 
 pub parameters-front : (depth : ℕ) (due : Bool) (found : Option ℕ) (w : Window) (p : Option ℕ × Window) → parameters depth due found w ≡ Ok p →
     (own : Option ℕ) × Is-optional due own (rest w) × Joined found own (p .0)
 unfolding parameters Parameter
-parameters-front zero due found w p e = absurd (let z : _≡_ {A = ℕ} 0 1 = cc in omega arith)
+parameters-front zero due found w p e = absurd (no-answer e)
 parameters-front (suc depth) due found w p e =
     let a = first (octet OptionalPart w) _ p e in
     let f = octet-front OptionalPart w (a .0) (a .1) in
@@ -171,8 +171,8 @@ agreed-front place class found both l h e = by found (eqb class 2) refl e
         let k : Ok (2, 0) ≡ Ok both = rw n at e in
         let t : both ≡ (2, 0) = cc in
         (ap (λ q. q .0) t ∙ sym (eqb-true class 2 n), inl (eqb-true class 2 n, ap (λ q. q .1) t, refl))
-    by (Some x) true n e = absurd (let k = rw n at e in let z : _≡_ {A = ℕ} 0 1 = cc in omega arith)
-    by None false n e = absurd (let k = rw n at e in let z : _≡_ {A = ℕ} 0 1 = cc in omega arith)
+    by (Some x) true n e = absurd (no-answer (rw n at e))
+    by None false n e = absurd (no-answer (rw n at e))
     by (Some x) false n e =
         let k = rw n at e in
         let t : (both ≡ (3, x)) × (1 ≤ x) × (x ≤ 127) = (grind (arith, tells), grind (arith, tells), grind (arith, tells)) in

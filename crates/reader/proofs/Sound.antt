@@ -21,12 +21,9 @@ use Rattle.message.specs.Content as content
 use Rattle.message.specs.Content.{Content}
 use Rattle.reader.specs.Reading.{header, octet, ends, reference, field, sequence-number, pointer, points-here, variable, counted, called-address, segment, called-party, optional-part, agreed, two-references, connection-request, connection-confirm, connection-refused, released, release-complete, data-form-1, data-form-2, data-acknowledgement, reset-request, reset-confirm, error, message-of, value, reading}
 use Rattle.message.specs.Layout.{Is-reference, Is-optional, Points, Has-credit, Laid-out, Is-message, more-octet}
-use Rattle.reader.proofs.Steps.{lift-value}
-use Rattle.reader.proofs.Fields.{rest, first, Past, octet-front, ends-front, counted-front, reference-front, field-front, sequence-front, pointer-front, points-front, address-front}
+use Rattle.reader.proofs.Steps.{no-answer, lift-value}
+use Rattle.reader.proofs.Fields.{rest, first, further, octet-front, ends-front, counted-front, reference-front, field-front, sequence-front, pointer-front, points-front, address-front}
 use Rattle.reader.proofs.Optional.{optional-front, agreed-front}
-
-further : (a b c m n : ℕ) → b ≡ a + m → c ≡ b + n → c ≡ a + (m + n)
-further a b c m n e f = omega arith
 
 distance : (x y a b n : ℕ) → x ≡ a → x + y ≡ b → b ≡ a + n → y ≡ n
 distance x y a b n e f g = omega arith
@@ -92,10 +89,10 @@ called-laid w p e =
     let fo = pointer-front (v .0 .1) (o .0) (o .1) in
     let fh = points-front (o .0 .1) (v .0 .0) (h .0) (h .1) in
     let fa = address-front (h .0 .1) (a .0) (a .1) in
-    let two : v .0 .0 .1 ≡ 2 = distance (v .0 .0 .0) (v .0 .0 .1) (w .place) (o .0 .1 .place) 2 (fv .1) (fh .1) (further _ _ _ 1 1 (fv .2 .1) (fo .2 .1)) in
+    let two : v .0 .0 .1 ≡ 2 = distance (v .0 .0 .0) (v .0 .0 .1) (w .place) (o .0 .1 .place) 2 (fv .1) (fh .1) (sym (further _ _ _ 1 1 (fv .2 .1) (fo .2 .1))) in
     let same : p ≡ ((a .0 .0, o .0 .0), a .0 .1) = whole-same _ p (a .2) in
     let front : rest (v .0 .1) ≡ o .0 .0 .1 ∷ 2 ∷ 66 ∷ a .0 .0 ∷ rest (a .0 .1) = fo .0 ∙ ap (λ xs. o .0 .0 .1 ∷ xs) (sym (ap rest (fh .0)) ∙ fa .0) in
-    let at : o .0 .0 .0 + 4 ≡ a .0 .1 .place = ap (λ x. x + 4) (fo .1) ∙ sym (further _ _ _ 1 3 (fo .2 .1) (fa .2 .1 ∙ ap (λ x. x .place + 3) (fh .0))) in
+    let at : o .0 .0 .0 + 4 ≡ a .0 .1 .place = ap (λ x. x + 4) (fo .1) ∙ further _ _ _ 1 3 (fo .2 .1) (fa .2 .1 ∙ ap (λ x. x .place + 3) (fh .0)) in
     subst (λ (q : (ℕ × (ℕ × ℕ)) × Window). (v : Window) × (rest w ≡ 2 ∷ rest v) × (rest v ≡ q .0 .1 .1 ∷ 2 ∷ 66 ∷ q .0 .0 ∷ rest (q .1)) × (1 ≤ q .0 .0) × (q .0 .1 .0 + 4 ≡ q .1 .place))
     (sym same) (v .0 .1, fv .0 ∙ ap (λ y. y ∷ rest (v .0 .1)) two, front, fa .1, at)
 
@@ -254,16 +251,16 @@ module _ (w : Window) (p : Content × Window) where
       one-type type 1 _ _ request-laid (one-type type 2 _ _ confirm-laid (one-type type 3 _ _ refused-laid (one-type type 4 _ _ released-laid
       (one-type type 5 _ _ complete-laid (one-type type 6 _ _ form-1-laid (one-type type 7 _ _ form-2-laid (one-type type 8 _ _ acknowledgement-laid
       (one-type type 13 _ _ reset-laid (one-type type 14 _ _ confirmed-laid (one-type type 15 _ _ error-laid
-      (λ e. absurd (let z : _≡_ {A = ℕ} 0 1 = cc in omega arith))))))))))))
+      (λ e. absurd (no-answer e))))))))))))
 
 value-gives : (r : Result (Content × Window) Fault) (c : Content) → value r ≡ Ok c → (v : Window) × (r ≡ Ok (c, v))
 value-gives (Ok p) c e = (p .1, let same : p .0 ≡ c = cc in ap (λ x. Ok (x, p .1)) same)
-value-gives (Err fault) c e = absurd (let z : _≡_ {A = ℕ} 0 1 = cc in omega arith)
+value-gives (Err fault) c e = absurd (no-answer e)
 
 -- what is read as a message is laid out as that message
 pub sound : (octets : List ℕ) (c : Content) → reading octets ≡ Ok c → Is-message c octets
 unfolding reading
-sound [] c e = absurd (let z : _≡_ {A = ℕ} 0 1 = cc in omega arith)
+sound [] c e = absurd (no-answer e)
 sound (type ∷ octets) c e =
     let w : Window = record { octets = type ∷ octets; place = 1 } in
     let size : length (type ∷ octets) ≤ 268 = grind (arith, tells) in

@@ -18,6 +18,10 @@ use Rattle.message.specs.declared.fault.Refusal.the-variants.{OptionalPart}
 use Rattle.reader.specs.Window.{Window, then, lift}
 use Rattle.reader.specs.Reading.{octet, ends, counted, credit-after, parameters, any-parameters}
 
+-- a refusal is no answer
+pub no-answer : {A : Type 0} {fault : Fault} {x : A} → _≡_ {A = Result A Fault} (Err fault) (Ok x) → ⊥
+no-answer e = let z : _≡_ {A = ℕ} 0 1 = cc in omega arith
+
 -- the window, so many octets further on
 abbrev pub moved : Window → ℕ → Window
 moved w n = record { octets = w .octets; place = w .place + n }
@@ -40,11 +44,11 @@ then-same (Err fault) f g h = refl
 
 pub lift-gives : {A : Type 0} (r : Result A Fault) (w : Window) (p : A × Window) → lift r w ≡ Ok p → p .1 ≡ w
 lift-gives (Ok x) w p e = let same : p ≡ (x, w) = cc in ap (λ q. q .1) same
-lift-gives (Err fault) w p e = absurd (let z : _≡_ {A = ℕ} 0 1 = cc in omega arith)
+lift-gives (Err fault) w p e = absurd (no-answer e)
 
 pub lift-value : {A : Type 0} (r : Result A Fault) (w : Window) (p : A × Window) → lift r w ≡ Ok p → r ≡ Ok (p .0)
 lift-value (Ok x) w p e = let same : (x, w) ≡ p = cc in ap (λ q. Ok (q .0)) same
-lift-value (Err fault) w p e = absurd (let z : _≡_ {A = ℕ} 0 1 = cc in omega arith)
+lift-value (Err fault) w p e = absurd (no-answer e)
 
 cond-same : {X : Type 0} (b : Bool) (x y z : X) → y ≡ z → cond b x y ≡ cond b x z
 cond-same true x y z e = refl

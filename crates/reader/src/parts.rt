@@ -47,7 +47,6 @@ impl<'a> Reader<'a> {
     pub(crate) fn segment(&mut self) -> Result<&'a [u8], Fault>
         ensures { λ r. ⌜ outcome (λ x. now x) r (now (self .exit)) ≡ reading.segment (window (now (self .entry))) ⌝ }
     {
-        let _touched = 1u8;
         let pointer = self.pointer()?;
         self.points_here(pointer)?;
         let data = self.variable()?;
@@ -118,10 +117,11 @@ pub(crate) fn agreed(place: usize, class: u8, found: Option<u8>) -> Result<Proto
     ensures { λ r. ⌜ classes r ≡ reading.agreed place class found ⌝ }
 {
     match found {
-        None if class == 2 => Ok(ProtocolClass::Class2),
-        Some(credit) if class != 2 && credit >= 1 && credit <= 127 => Ok(ProtocolClass::Class3 {
-            credit: Credit(credit),
-        }),
+        None if class == kind::CLASS_2 => Ok(ProtocolClass::Class2),
+        Some(credit) if class != kind::CLASS_2 && credit >= 1 && credit <= 127 =>
+            Ok(ProtocolClass::Class3 {
+                credit: Credit(credit),
+            }),
         _ => Err(Refusal::CreditMisfit.at(place)),
     }
 }

@@ -60,7 +60,7 @@ impl<'a> Reader<'a> {
         self.header(7)?;
         let source = self.reference()?;
         let place = self.at;
-        let class = self.field(2, 3)?;
+        let class = self.field(kind::CLASS_2, kind::CLASS_3)?;
         let (subsystem, optional) = self.called_party()?;
         let found = self.optional_part(true, optional)?;
         let class = agreed(place, class, found)?;
@@ -78,7 +78,7 @@ impl<'a> Reader<'a> {
         let destination = self.reference()?;
         let source = self.reference()?;
         let place = self.at;
-        let class = self.field(2, 3)?;
+        let class = self.field(kind::CLASS_2, kind::CLASS_3)?;
         let optional = self.pointer()?;
         let found = self.optional_part(true, optional)?;
         let class = agreed(place, class, found)?;
