@@ -1,26 +1,22 @@
 -- What is laid out as a message is read as that message.
-use Prim.Native.Nat.{ℕ, zero, suc, zero-le, _+_, _-_, _*_, _/_, _%_, _≤_, _<_}
+use Prim.Native.Nat.{ℕ, suc, zero-le, _+_, _*_, _/_, _%_, _≤_}
 use mathlib.Core.Path.{_≡_, refl, sym, ap, subst, _∙_}
 use mathlib.Core.List.{List, [], _∷_, _++_}
-use mathlib.Core.Bool.{Bool, true, false, cond}
-use mathlib.Core.Logic.{_⊎_, inl, inr}
+use mathlib.Core.Bool.{Bool, true, false}
+use mathlib.Core.Logic.{inl, inr}
 use native.Mathlib.Omega.{arith}
-use lib.ListN.{length, drop}
+use lib.ListN.{length}
 use lib.Dec.{eqb, lit≤}
-use Rattle.std.proofs.shelf.Lists.{append-nil, length-append, length-drop}
+use Rattle.std.proofs.shelf.Lists.{append-nil, length-drop}
 use Rattle.std.proofs.shelf.Tests.{le-ltb, le-leb, eq-eqb, ne-eqb}
-use Rattle.std.proofs.shelf.Ways.{tells}
 use Rattle.std.specs.declared.option.Option.{Option}
-use Rattle.std.specs.declared.option.Option.the-variants.{Some, None}
-use Rattle.std.specs.declared.result.Result.{Result}
-use Rattle.std.specs.declared.result.Result.the-variants.{Ok, Err}
-use Rattle.message.specs.declared.fault.Fault.{Fault}
+use Rattle.std.specs.declared.result.Result.the-variants.{Ok}
 use Rattle.message.specs.declared.fault.Refusal.the-variants.{CutShort, VariablePart}
-use Rattle.reader.specs.Window.{Window, then, lift}
+use Rattle.reader.specs.Window.{Window}
 use Rattle.message.specs.Content as content
 use Rattle.message.specs.Content.{Content}
-use Rattle.reader.specs.Reading.{header, variable, segment, called-party, two-references, optional-part, connection-request, connection-confirm, connection-refused, released, release-complete, data-form-1, data-form-2, data-acknowledgement, reset-request, reset-confirm, error, message-of, value, reading}
-use Rattle.message.specs.Layout.{Is-reference, Is-optional, Points, Has-credit, Laid-out, Is-message, more-octet}
+use Rattle.reader.specs.Reading.{header, variable, segment, called-party, two-references, optional-part, connection-request, connection-confirm, connection-refused, released, data-form-1, data-form-2, data-acknowledgement, reset-request, error, message-of, value, reading}
+use Rattle.message.specs.Layout.{Is-reference, Points, Has-credit, Laid-out, Is-message, more-octet}
 use Rattle.reader.proofs.Fields.{rest, further, octet-takes, ends-takes, counted-takes, reference-takes, field-takes, sequence-takes, pointer-takes, points-takes, address-takes}
 use Rattle.reader.proofs.Optional.{optional-none, optional-takes, agreed-takes}
 

@@ -1,8 +1,8 @@
 -- Each reading step against the octets that it takes: what it gives stands in front of what is left, and where that stands there it is given.
-use Prim.Native.Nat.{ℕ, zero, suc, _+_, _-_, _*_, _/_, _%_, _≤_, _<_}
+use Prim.Native.Nat.{ℕ, suc, _+_, _-_, _*_, _/_, _%_, _≤_, _<_}
 use mathlib.Core.Path.{_≡_, refl, sym, ap, _∙_}
 use mathlib.Core.List.{List, [], _∷_, _++_}
-use mathlib.Core.Bool.{Bool, true, false, cond}
+use mathlib.Core.Bool.{true, false}
 use native.Mathlib.Omega.{arith}
 use lib.ListN.{length, getD, take, drop}
 use lib.Dec.{eqb, lit≤}
@@ -13,7 +13,7 @@ use Rattle.std.specs.declared.result.Result.{Result}
 use Rattle.std.specs.declared.result.Result.the-variants.{Ok, Err}
 use Rattle.message.specs.declared.fault.Fault.{Fault}
 use Rattle.message.specs.declared.fault.Refusal.{Refusal}
-use Rattle.message.specs.declared.fault.Refusal.the-variants.{CutShort, VariablePart, OptionalPart}
+use Rattle.message.specs.declared.fault.Refusal.the-variants.{CutShort, VariablePart}
 use Rattle.reader.specs.Window.{Window, then}
 use Rattle.reader.specs.Reading.{octet, ends, counted, reference, field, sequence-number, pointer, points-here, variable, called-address}
 use Rattle.message.specs.Layout.{Is-reference}

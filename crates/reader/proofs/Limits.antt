@@ -1,15 +1,14 @@
 -- What is read from octets has every field within its limits.
 use Prim.Native.Nat.{ℕ, suc, _+_, _*_, _≤_, _<_}
-use mathlib.Core.Path.{_≡_, refl, sym, ap, subst, _∙_}
+use mathlib.Core.Path.{_≡_, refl, sym, subst}
 use mathlib.Core.List.{List, [], _∷_, _++_}
 use mathlib.Core.Bool.{Bool, true, _&&_}
-use mathlib.Core.Logic.{_⊎_, inl, inr}
+use mathlib.Core.Logic.{inl, inr}
 use native.Mathlib.Omega.{arith}
 use lib.ListN.{length, getD}
 use lib.Dec.{leb}
 use Rattle.std.proofs.shelf.Lists.{append-nil}
 use Rattle.std.proofs.shelf.Tests.{and-from, le-leb}
-use Rattle.std.proofs.shelf.Ways.{tells}
 use Rattle.std.specs.Vec.{made}
 use Rattle.std.specs.declared.option.Option.{Option}
 use Rattle.std.specs.declared.result.Result.{Result}
@@ -17,7 +16,7 @@ use Rattle.std.specs.declared.result.Result.the-variants.{Ok, Err}
 use Rattle.message.specs.declared.fault.Fault.{Fault}
 use Rattle.message.specs.declared.content.Message.{Message}
 use Rattle.message.specs.Content as content
-use Rattle.message.specs.Content.{Content, within, reference-fits, class-fits, segment-fits, between}
+use Rattle.message.specs.Content.{Content, within, reference-fits, class-fits, segment-fits}
 use Rattle.message.specs.Meaning.{meaning, means}
 use Rattle.reader.specs.Reading.{reading}
 use Rattle.message.specs.Layout.{Is-reference, Points, Has-credit, Laid-out}

@@ -1,17 +1,17 @@
 -- What is read as a message is laid out as that message.
-use Prim.Native.Nat.{ℕ, zero, suc, _+_, _-_, _*_, _/_, _%_, _≤_, _<_}
+use Prim.Native.Nat.{ℕ, _+_, _*_, _/_, _%_, _≤_, _<_}
 use mathlib.Core.Path.{_≡_, refl, sym, ap, subst, _∙_}
 use mathlib.Core.List.{List, [], _∷_, _++_}
 use mathlib.Core.Bool.{Bool, true, false, cond}
 use mathlib.Core.Logic.{_⊎_, inl, inr}
 use native.Mathlib.Omega.{arith}
-use lib.ListN.{length, drop}
+use lib.ListN.{length}
 use lib.Dec.{eqb}
 use Rattle.std.proofs.shelf.Lists.{append-nil}
-use Rattle.std.proofs.shelf.Tests.{eqb-true, eqb-false}
+use Rattle.std.proofs.shelf.Tests.{eqb-true}
 use Rattle.std.proofs.shelf.Ways.{tells}
 use Rattle.std.specs.declared.option.Option.{Option}
-use Rattle.std.specs.declared.option.Option.the-variants.{Some, None}
+use Rattle.std.specs.declared.option.Option.the-variants.{None}
 use Rattle.std.specs.declared.result.Result.{Result}
 use Rattle.std.specs.declared.result.Result.the-variants.{Ok, Err}
 use Rattle.message.specs.declared.fault.Fault.{Fault}
@@ -20,7 +20,7 @@ use Rattle.reader.specs.Window.{Window, then, lift}
 use Rattle.message.specs.Content as content
 use Rattle.message.specs.Content.{Content}
 use Rattle.reader.specs.Reading.{header, octet, ends, reference, field, sequence-number, pointer, points-here, variable, counted, called-address, segment, called-party, optional-part, agreed, two-references, connection-request, connection-confirm, connection-refused, released, release-complete, data-form-1, data-form-2, data-acknowledgement, reset-request, reset-confirm, error, message-of, value, reading}
-use Rattle.message.specs.Layout.{Is-reference, Is-optional, Points, Has-credit, Laid-out, Is-message, more-octet}
+use Rattle.message.specs.Layout.{Is-reference, Is-optional, Points, Laid-out, Is-message, more-octet}
 use Rattle.reader.proofs.Steps.{no-answer, lift-value}
 use Rattle.reader.proofs.Fields.{rest, first, further, octet-front, ends-front, counted-front, reference-front, field-front, sequence-front, pointer-front, points-front, address-front}
 use Rattle.reader.proofs.Optional.{optional-front, agreed-front}

@@ -14,7 +14,7 @@ use Rattle.message.specs.declared.fault.Refusal.{Refusal}
 use Rattle.message.specs.declared.fault.Refusal.the-variants.{MessageLength, UnknownType, CutShort, FieldValue, VariablePart, OptionalPart, CreditMisfit}
 use Rattle.message.specs.Content as content
 use Rattle.message.specs.Content.{Content, between}
-use Rattle.reader.specs.Window.{Window, Read, _>>=_, _>>_, then, choose, give, refuse, lift, here}
+use Rattle.reader.specs.Window.{Window, Read, _>>=_, _>>_, choose, give, refuse, lift, here}
 
 -- What steps are made of
 

@@ -1,5 +1,5 @@
 // A reader over the octets of one message: a window that moves on as fields are taken, and the fields themselves.
-ghost use Prim.Native.Nat.{ℕ, _+_, _<_, _≤_};
+ghost use Prim.Native.Nat.{_+_, _<_};
 ghost use mathlib.Core.Path.{_≡_};
 ghost use Rattle.message.specs.Meaning.{error-number};
 ghost use Rattle.reader.specs.Window.{window, outcome, nothing};

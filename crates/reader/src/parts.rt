@@ -1,7 +1,6 @@
 // The variable part and the optional part of a message.
-ghost use Prim.Native.Nat.{ℕ, suc, _+_, _<_, _≤_};
+ghost use Prim.Native.Nat.{_<_};
 ghost use mathlib.Core.Path.{_≡_};
-ghost use lib.ListN.{length};
 ghost use Rattle.message.specs.Meaning.{classes};
 ghost use Rattle.reader.specs.Window.{window, outcome, nothing};
 ghost use Rattle.reader.specs.Reading as reading;

@@ -1,5 +1,5 @@
 // The eleven messages, each as its layout has it behind the type: fixed fields, pointers, the variable part, the optional part.
-ghost use Prim.Native.Nat.{ℕ, _+_, _<_, _≤_};
+ghost use Prim.Native.Nat.{_<_};
 ghost use mathlib.Core.Path.{_≡_};
 ghost use mathlib.Core.Bool.{true};
 ghost use mathlib.Core.Logic.{_↔_};

@@ -1,8 +1,8 @@
 -- What is written reads back: the octets of a message within its limits are laid out as that message.
-use Prim.Native.Nat.{ℕ, suc, _+_, _*_, _/_, _%_, _≤_, _<_}
-use mathlib.Core.Path.{_≡_, refl, sym, ap, _∙_}
-use mathlib.Core.List.{List, [], _∷_, _++_}
-use mathlib.Core.Bool.{Bool, true, false, cond, _&&_}
+use Prim.Native.Nat.{ℕ, _+_, _*_, _/_, _%_, _≤_}
+use mathlib.Core.Path.{_≡_, refl}
+use mathlib.Core.List.{List, [], _∷_}
+use mathlib.Core.Bool.{Bool, true, false}
 use mathlib.Core.Logic.{_⊎_, inl, inr}
 use native.Mathlib.Omega.{arith}
 use lib.ListN.{length}
@@ -12,11 +12,11 @@ use Rattle.std.proofs.shelf.Tests.{and-parts, leb-true}
 use Rattle.std.proofs.shelf.Ways.{tells}
 use Rattle.std.specs.declared.option.Option.{Option}
 use Rattle.std.specs.declared.option.Option.the-variants.{Some, None}
-use Rattle.std.specs.declared.result.Result.the-variants.{Ok, Err}
+use Rattle.std.specs.declared.result.Result.the-variants.{Ok}
 use Rattle.message.specs.Content as content
-use Rattle.message.specs.Content.{Content, within, reference-fits, class-fits, segment-fits}
+use Rattle.message.specs.Content.{Content, within, reference-fits, class-fits}
 use Rattle.reader.specs.Reading.{reading}
-use Rattle.message.specs.Layout.{layout, reference-octets, credit-part, Is-reference, ended, with-credit, Points, Has-credit, Laid-out, Is-message}
+use Rattle.message.specs.Layout.{layout, reference-octets, credit-part, Is-reference, ended, with-credit, Points, Has-credit, Laid-out}
 use Rattle.reader.proofs.Complete.{complete}
 
 reference-back : (v : ℕ) → reference-fits v ≡ true → Is-reference v (reference-octets v)

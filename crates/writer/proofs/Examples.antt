@@ -1,9 +1,5 @@
 -- The worked examples hold: antt computes them.
-use mathlib.Core.Path.{_≡_, refl}
-use Prim.Native.Nat.{_≤_, _<_}
-use native.Mathlib.Omega.{arith}
-use lib.ListN.{length}
-use Rattle.std.proofs.shelf.Ways.{tells}
+use mathlib.Core.Path.{refl}
 use Rattle.reader.specs.Reading.{header, octet, ends, counted, reference, field, sequence-number, pointer, points-here, variable, called-address, segment, called-party, credit-after, parameters, optional-part, agreed, two-references, reading}
 use Rattle.writer.specs.Examples.{Worked-examples}
 

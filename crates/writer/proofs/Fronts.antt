@@ -1,11 +1,11 @@
 -- What stands at the front of a buffer after one part was written behind another.
-use Prim.Native.Nat.{ℕ, _+_, _-_}
+use Prim.Native.Nat.{ℕ, _+_}
 use mathlib.Core.Path.{_≡_, refl, sym, _∙_}
 use mathlib.Core.List.{List, _++_}
 use native.Mathlib.Omega.{arith}
 use borrow.Rule.Slice.PartMut.{putMid}
-use lib.ListN.{length, take, drop}
-use Rattle.std.proofs.shelf.Lists.{append-assoc, length-append, take-at, drop-at, drop-drop, take-all}
+use lib.ListN.{length, drop}
+use Rattle.std.proofs.shelf.Lists.{length-append, take-at, drop-at, drop-drop, take-all}
 use Rattle.std.proofs.shelf.Parts.{putMid-paste}
 
 pub behind : (header octets buffer after : List ℕ) (from k : ℕ) → from ≡ length header → k ≡ length octets → after ≡ octets →

@@ -5,9 +5,8 @@ use mathlib.Core.List.{List, [], _∷_}
 use mathlib.Core.Bool.{true}
 use lib.ListN.{length}
 use Rattle.std.specs.declared.result.Result.the-variants.{Ok, Err}
-use Rattle.message.specs.declared.fault.Fault.{Fault}
 use Rattle.message.specs.declared.fault.Refusal.the-variants.{MessageLength, OptionalPart, CreditMisfit}
-use Rattle.message.specs.Content.{Content, connection-request, connection-confirm, data-form-2}
+use Rattle.message.specs.Content.{connection-request, connection-confirm, data-form-2}
 use Rattle.reader.specs.Reading.{reading}
 use Rattle.message.specs.Layout.{layout}
 

@@ -1,6 +1,6 @@
 -- `parse` reads what the text says.
 use mathlib.Core.Path.{sym, ap, subst, _∙_}
-use mathlib.Core.List.{List, append-nil, _++_}
+use mathlib.Core.List.{append-nil, _++_}
 use native.Mathlib.Omega.{arith}
 use Prim.Native.Nat.{_+_}
 use lib.ListN.{getD}

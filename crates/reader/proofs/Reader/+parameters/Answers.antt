@@ -1,6 +1,5 @@
 use borrow.Author.Needs.{needs}
 use mathlib.Core.Path.{_∙_}
-use native.Mathlib.Omega.{arith}
 use Rattle.reader.specs.Window.{window}
 use Rattle.reader.specs.Reading.{parameters}
 use Rattle.reader.proofs.Steps.{parameter-place, parameter-more}

@@ -1,5 +1,5 @@
 -- Octets are written in order, two digits each.
-use mathlib.Core.Path.{refl, ap}
+use mathlib.Core.Path.{ap}
 use native.Mathlib.Omega.{arith}
 use Rattle.std.proofs.Writes.{put-is, wrote-none}
 use Rattle.std.proofs.shelf.Lists.{take-all}
