@@ -1,13 +1,14 @@
 -- The stages read what the text says.
-use mathlib.Core.Path.{_≡_, refl, sym, ap, _∙_}
-use mathlib.Core.Bool.{true, false, cond}
+use mathlib.Core.Path.{_≡_, refl, sym, ap, subst, _∙_}
+use mathlib.Core.Bool.{Bool, true, false, cond}
 use mathlib.Core.List.{List, [], _∷_, _++_, append-nil, append-assoc}
 use Prim.Native.Nat.{ℕ, _+_, _*_, _≤_, _<_}
 use native.Mathlib.Omega.{arith}
 use lib.Dec.{eqb}
 use lib.ListN.{length, getD, drop}
-use Rattle.std.proofs.shelf.Lists.{at-drop-more, at-drop-all}
+use Rattle.std.proofs.shelf.Lists.{at-drop-more, at-drop-all, length-append}
 use Rattle.std.proofs.shelf.Tests.{eqb-true, or-from}
+use Rattle.std.proofs.shelf.Ways.{tells}
 use Rattle.std.specs.declared.result.Result.{Result}
 use Rattle.std.specs.declared.result.Result.the-variants.{Ok, Err}
 use Rattle.hex.specs.declared.text.HexFault.{HexFault}
@@ -16,7 +17,7 @@ use Rattle.hex.specs.declared.stage.Stage.{Stage}
 use Rattle.hex.specs.declared.stage.Stage.the-variants.{Start, Dash, Half, Octet, Gap}
 use Rattle.hex.specs.Digits.{blank, gap, digit-at, second-at}
 use Rattle.hex.specs.Stages.{Small, next-stage, last-stage, half, whole}
-use Rattle.hex.specs.Text.{before, pair, octets-from, blanks-from, text-from, octets-of, Reads}
+use Rattle.hex.specs.Text.{before, pair, octets-from, blanks-from, text-from, octets-of, Keeps, Reads}
 
 abbrev pub Said : Type 0
 Said = Result (List ℕ) HexFault
@@ -123,7 +124,46 @@ refuses Nothing text is = sym is
 refuses (NoDigit n) text is = sym is
 refuses (LoneDigit n) text is = sym is
 refuses (BehindDash n) text is = sym is
-refuses Memory text is = tt
+refuses Memory text is = (λ e. let z : _≡_ {A = ℕ} 0 1 = cc in omega arith, λ e. let z : _≡_ {A = ℕ} 0 1 = cc in omega arith)
+
+-- octets are no fault
+no-fault : {octets : List ℕ} {fault : HexFault} → _≡_ {A = Said} (Ok octets) (Err fault) → ⊥
+no-fault e = let z : _≡_ {A = ℕ} 0 1 = cc in omega arith
+
+-- nothing but blanks is a fault of a whole text only, and not of what stands behind an octet
+cond-some : (b : Bool) (x y : Said) → (x ≡ Err Nothing → ⊥) → (y ≡ Err Nothing → ⊥) → cond b x y ≡ Err Nothing → ⊥
+cond-some true x y f g e = f e
+cond-some false x y f g e = g e
+
+digit-some : (n c : ℕ) → digit-at n c ≡ Err Nothing → ⊥
+digit-some n c e = grind (arith, tells)
+
+second-some : (m n c : ℕ) → second-at m n c ≡ Err Nothing → ⊥
+second-some m n c = by (gap c)
+  where
+    by : (b : Bool) → cond b (Err (LoneDigit m)) (digit-at n c) ≡ Err Nothing → ⊥
+    by true e = let z : _≡_ {A = ℕ} 0 1 = cc in omega arith
+    by false e = digit-some n c e
+
+pair-some : (high low : Result ℕ HexFault) (others : Said) → (high ≡ Err Nothing → ⊥) → (low ≡ Err Nothing → ⊥) → (others ≡ Err Nothing → ⊥) → pair high low others ≡ Err Nothing → ⊥
+pair-some (Err fault) low others f g h e = f (let k : fault ≡ Nothing = cc in ap Err k)
+pair-some (Ok high) (Err fault) others f g h e = g (let k : fault ≡ Nothing = cc in ap Err k)
+pair-some (Ok high) (Ok low) (Err fault) f g h e = h e
+pair-some (Ok high) (Ok low) (Ok octets) f g h e = no-fault e
+
+octets-some : (n : ℕ) (cs : List ℕ) → octets-from n cs ≡ Err Nothing → ⊥
+octets-some n [] e = no-fault e
+octets-some n (c ∷ []) e =
+    cond-some (gap c) (Ok []) _ no-fault
+    (pair-some (digit-at n c) (Err (LoneDigit n)) (Ok []) (digit-some n c) (λ f. let z : _≡_ {A = ℕ} 0 1 = cc in omega arith) no-fault) e
+octets-some n (c ∷ d ∷ cs) e =
+    cond-some (gap c) _ _ (octets-some (n + 1) (d ∷ cs))
+    (pair-some (digit-at n c) (second-at n (n + 1) d) _ (digit-some n c) (second-some n (n + 1) d) (octets-some (n + 2) cs)) e
+
+front-some : (front : List ℕ) (octet : ℕ) (said : Said) → (said ≡ Err Nothing → ⊥) → Keeps (onto front (onto (octet ∷ []) said))
+front-some front octet (Ok others) f =
+    (λ e. let k : front ++ (octet ∷ others) ≡ [] = cc in omega (arith, ap length k, length-append front (octet ∷ others)), no-fault)
+front-some front octet (Err fault) f = (λ e. let z : _≡_ {A = ℕ} 0 1 = cc in omega arith, f)
 
 -- no octet ends at any other stage
 pub none-ends : (stage : Stage) → ((octet : ℕ) → stage ≡ Octet octet → ⊥) → ending stage ≡ []
@@ -154,6 +194,11 @@ module _ {text front : List ℕ} {i : ℕ} {stage : Stage} (sofar : Sofar text f
 
   pub stops : (fault : HexFault) → i < length text → Err fault ≡ next-stage stage (getD text i 0) (i + 1) → Reads (Err fault) (octets-of text)
   stops fault more is = refuses fault text (turn (Err fault) more is)
+
+  pub keeps : (octet : ℕ) → i < length text → Ok (Octet octet) ≡ next-stage stage (getD text i 0) (i + 1) → Reads (Err Memory) (octets-of text)
+  keeps octet more is =
+      subst Keeps (turn (Ok (Octet octet)) more is)
+      (front-some front octet (rest (Octet octet)) (λ e. octets-some (i + 1 + 1) (drop (i + 1) text) (sym (run-octet octet (i + 1 + 1) (drop (i + 1) text) ∙ run-gap (i + 1 + 1) (drop (i + 1) text)) ∙ e)))
 
   over : (said : Result (Unit {0}) HexFault) → length text ≤ i → said ≡ last-stage stage → onto front (ended said) ≡ octets-of text
   over said all is = ap (onto front) (ap ended is ∙ sym (at-drop-all (run stage (i + 1)) text i all)) ∙ sofar .said

@@ -49,11 +49,15 @@ text-from n (c ∷ cs) =
 abbrev pub octets-of : List ℕ → Result (List ℕ) HexFault
 octets-of text = text-from 1 text
 
--- a reading gives those octets or that fault, want of memory apart
+-- want of memory comes only with octets to keep: not for a dash, and not for blanks alone
+abbrev pub Keeps : Result (List ℕ) HexFault → Type 0
+Keeps said = (said ≡ Ok [] → ⊥) × (said ≡ Err Nothing → ⊥)
+
+-- a reading gives those octets or that fault, or finds no memory for octets
 abbrev pub Reads : Result (Vec ℕ Global) HexFault → Result (List ℕ) HexFault → Type 0
 Reads (Ok octets) said = said ≡ Ok (vec-items octets)
 Reads (Err Nothing) said = said ≡ Err Nothing
 Reads (Err (NoDigit n)) said = said ≡ Err (NoDigit n)
 Reads (Err (LoneDigit n)) said = said ≡ Err (LoneDigit n)
 Reads (Err (BehindDash n)) said = said ≡ Err (BehindDash n)
-Reads (Err Memory) said = Unit {0}
+Reads (Err Memory) said = Keeps said

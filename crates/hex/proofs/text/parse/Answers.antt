@@ -8,8 +8,9 @@ use Rattle.std.proofs.Told.{chosen}
 use Rattle.std.proofs.shelf.Results.{err-from-errBy}
 use Rattle.std.specs.Of.Vec.{vec-items}
 use Rattle.std.specs.Results.{isOk}
+use Rattle.std.specs.declared.result.Result.the-variants.{Ok}
 use Rattle.hex.specs.Stages.{next-stage}
-use Rattle.hex.proofs.Runs.{Sofar, ending, none-ends, starts, goes-on, stops, ends, ends-badly}
+use Rattle.hex.proofs.Runs.{Sofar, ending, none-ends, starts, goes-on, stops, keeps, ends, ends-badly}
 use Rattle.hex.proofs.text.parse.Needs as need
 use Rattle.hex.proofs.text.parse.Needs.{in-Octet·in-Continue-push, in-rest}
 
@@ -21,6 +22,12 @@ returns-in-Break-stage c =
     let p = err-from-errBy (c .from-residual .result) (c .from-residual .ensures .1) in
     let read = ap (λ t. next-stage (c .loop-place .stage) (getD t (c .loop-place .place) 0) (c .loop-place .place + 1)) (c .as-bytes-character-items .ensures .value) in
     rw (p .1, p .2) (stops (c .loop-place .inv) (c .in-Break-stage .field-0 .0) (omega arith) (c .in-Break-stage .ensures tt .value ∙ read))
+
+pub returns-in-Break-push : need.returns-in-Break-push
+returns-in-Break-push c =
+    let p = err-from-errBy (c .from-residual-in-Break-push .result) (c .from-residual-in-Break-push .ensures .1) in
+    let read = ap (λ t. next-stage (c .loop-place .stage) (getD t (c .loop-place .place) 0) (c .loop-place .place + 1)) (c .as-bytes-character-items .ensures .value) in
+    rw (p .1, p .2) (keeps (c .loop-place .inv) (c .in-Octet .octet) (omega arith) (ap Ok (sym (c .in-Octet .is)) ∙ (c .in-Continue-stage .ensures tt .value ∙ read)))
 
 pub loop-place-again : need.loop-place-again
 loop-place-again c =
