@@ -1,5 +1,5 @@
 // What one line of input comes to.
-use hex::text::HexFault;
+use hex_text::text::HexFault;
 use notation::description::describe;
 use std::alloc::{AllocError, Global};
 

@@ -1,4 +1,6 @@
 // Decodes SCCP messages: hex text on standard input, a line for each message on standard output.
+#![tactic(auto)]
+
 mod failure;
 mod input;
 #[cfg(test)]

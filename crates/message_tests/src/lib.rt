@@ -1,3 +1,5 @@
 // Tests of text that is no message.
+#![tactic(auto)]
+
 #[cfg(test)]
 mod text;

@@ -1,5 +1,5 @@
 // Text that is no message: what its fault says.
-use hex::text::HexFault;
+use hex_text::text::HexFault;
 use notation::description::describe;
 use std::test::Fail;
 

@@ -2,8 +2,8 @@
 use Rattle.std.specs.Prelude.{◌≡◌, ℕ, List, Ok, Err, string_bytes, Result, String}
 use Rattle.std.specs.declared.alloc.Global.{Global}
 use Rattle.reader.specs.Reading.{reading}
-use Rattle.hex.specs.declared.text.HexFault.{HexFault}
-use Rattle.hex.specs.declared.text.HexFault.TheVariants.{Nothing, NoDigit, LoneDigit, BehindDash, Memory}
+use Rattle.hex_text.specs.declared.text.HexFault.{HexFault}
+use Rattle.hex_text.specs.declared.text.HexFault.TheVariants.{Nothing, NoDigit, LoneDigit, BehindDash, Memory}
 use Rattle.notation.specs.Lines.{answer_line}
 
 -- the line of what the octets of the text mean, or the fault of the text. Memory is not wanted for blanks alone

@@ -5,7 +5,7 @@ use Rattle.message.specs.Layout.{more_octet}
 use Rattle.message.specs.Refusals.{number, layer, layer_number}
 use Rattle.message.specs.Content.{Content, connection_request, connection_confirm, connection_refused, released, release_complete, data_form_1, data_form_2, data_acknowledgement, reset_request, reset_confirm, error}
 use Rattle.message.specs.declared.fault.Fault.{Fault}
-use Rattle.hex.specs.Capitals.{capitals}
+use Rattle.hex_text.specs.Capitals.{capitals}
 
 -- the last field: a name and a number
 abbrev pub last : String → ℕ → List ℕ

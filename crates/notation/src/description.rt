@@ -1,9 +1,9 @@
 // A message that is given as hex text, described in one line.
 ghost use Rattle.notation.specs.Description.{Describes};
-ghost use Rattle.hex.specs.Text.{octets_of};
+ghost use Rattle.hex_text.specs.Text.{octets_of};
 
 use crate::line::AnswerLine;
-use hex::text::{HexFault, parse};
+use hex_text::text::{HexFault, parse};
 use reader::read;
 use std::alloc::Global;
 

@@ -4,7 +4,7 @@ ghost use Rattle.message.specs.Meaning.{meaning, means, class_number, credit_num
 ghost use Rattle.message.specs.Refusals.{layer_number};
 ghost use Rattle.notation.specs.Lines.{line, refusal_line, answer_line};
 
-use hex::octets::Hex;
+use hex_text::octets::Hex;
 use message::content::{ErrorCause, Message, ProtocolClass};
 use message::fault::{Fault, Layer};
 use std::fmt;

@@ -1,4 +1,6 @@
 // A bench route that keeps its messages in records in no particular order, each with its end and its queue number.
+#![tactic(auto)]
+
 ghost use Rattle.std.specs.Prelude.{◌≡◌, ◌/◌, ◌<◌, ◌≤◌, length, Ok, Err, vec_len};
 ghost use Rattle.message.specs.declared.fault.Refusal.TheVariants.{MemorySize};
 ghost use Rattle.route.specs.Ends.{end_number};

@@ -1,4 +1,6 @@
 // A reader over the octets of one message: a window that moves on as fields are taken, and the fields themselves.
+#![tactic(auto)]
+
 ghost use Rattle.std.specs.Prelude.{◌≡◌, ◌+◌, ◌<◌};
 ghost use Rattle.message.specs.Meaning.{error_number};
 ghost use Rattle.reader.specs.Window.{window, outcome, nothing};

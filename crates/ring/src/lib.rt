@@ -1,4 +1,6 @@
 // A route over slots that are used in turn: what is put or taken touches one slot, however many there are.
+#![tactic(auto)]
+
 ghost use Rattle.std.specs.Prelude.{◌≡◌, ◌+◌, ◌/◌, ◌<◌, ◌≤◌, [], ◌∷◌, ◌++◌, drop, Ok, Err, vec_len, slice_index};
 ghost use Rattle.message.specs.declared.fault.Refusal.TheVariants.{MemorySize};
 ghost use Rattle.route.specs.Ways.{empty_ways, toward, with_toward, oldest, without};

@@ -1,4 +1,6 @@
 // Routes: what carries messages between two ends. A route means two lists of messages and a capacity, and nothing else of it shows.
+#![tactic(auto)]
+
 ghost use Rattle.std.specs.Prelude.{◌≡◌};
 ghost use Rattle.route.specs.Ways.{Ways, Sound};
 ghost use Rattle.route.specs.Ways.{put_answer, put_after};

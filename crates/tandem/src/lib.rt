@@ -1,4 +1,6 @@
 // Two routes in a row, which are a route again.
+#![tactic(auto)]
+
 ghost use Rattle.std.specs.Prelude.{◌≡◌};
 ghost use Rattle.route.specs.Ways.{joined};
 ghost use Rattle.tandem.specs.Rooms.{RoomMade};

@@ -1,4 +1,6 @@
 // Messages as octets at the front of a buffer.
+#![tactic(auto)]
+
 ghost use Rattle.std.specs.Prelude.{◌≡◌, ◌+◌, ◌*◌, ◌/◌, ◌%◌, ◌<◌, ◌≤◌, true, [], ◌++◌, length, take, drop, IfOk, Ok};
 ghost use Rattle.message.specs.Content as content;
 ghost use Rattle.message.specs.Layout.{reference_octets};

@@ -2,7 +2,7 @@
 use Rattle.std.proofs.Common.{◌≡◌, ℕ, Bool, true, false, cond, List, ◌++◌, Some, codes, sym, refl, ap, ◌∙◌}
 use mir.Val.{bool_byte}
 use Rattle.std.proofs.Output.{displays_on_ok_of_eq}
-use Rattle.hex.specs.Capitals.{capitals}
+use Rattle.hex_text.specs.Capitals.{capitals}
 use Rattle.message.specs.Meaning.{meaning}
 use Rattle.notation.specs.Lines.{line, field, last}
 use Rattle.notation.proofs.line.LineDisplay.fmt.Goals as goal

@@ -2,9 +2,9 @@
 use Rattle.std.proofs.Common.{is_ok, ap, arith}
 use Rattle.std.proofs.Output.{has_written_of_eq, writes_in_calls_nil}
 use Rattle.std.proofs.lemmas.List.{take_all}
-use Rattle.hex.specs.Capitals.{capitals}
-use Rattle.hex.proofs.Writing.{octet_more}
-use Rattle.hex.proofs.octets.HexDisplay.fmt.Goals as goal
+use Rattle.hex_text.specs.Capitals.{capitals}
+use Rattle.hex_text.proofs.Writing.{octet_more}
+use Rattle.hex_text.proofs.octets.HexDisplay.fmt.Goals as goal
 
 pub loop-octet-init : goal.loop-octet-init
 loop-octet-init g c = λ plain. record { wrote = writes_in_calls_nil g.W.Write.write_str_gives c.args.f.now.writer; plain = plain }

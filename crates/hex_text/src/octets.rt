@@ -1,6 +1,6 @@
 // Octets written as hex text.
 ghost use Rattle.std.specs.Prelude.{◌≡◌, ◌<◌, Some};
-ghost use Rattle.hex.specs.Capitals.{capital, capitals};
+ghost use Rattle.hex_text.specs.Capitals.{capital, capitals};
 
 use std::fmt;
 

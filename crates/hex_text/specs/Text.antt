@@ -1,9 +1,9 @@
 -- Which octets hex text stands for. Columns count from 1.
 use Rattle.std.specs.Prelude.{◌≡◌, ℕ, ◌+◌, ◌*◌, cond, List, [], ◌∷◌, Ok, Err, vec_items, Result, Vec, ◌==◌, ◌≢◌}
 use Rattle.std.specs.declared.alloc.Global.{Global}
-use Rattle.hex.specs.declared.text.HexFault.{HexFault}
-use Rattle.hex.specs.declared.text.HexFault.TheVariants.{Nothing, NoDigit, LoneDigit, BehindDash, Memory}
-use Rattle.hex.specs.Digits.{blank, gap, digit_at, second_at}
+use Rattle.hex_text.specs.declared.text.HexFault.{HexFault}
+use Rattle.hex_text.specs.declared.text.HexFault.TheVariants.{Nothing, NoDigit, LoneDigit, BehindDash, Memory}
+use Rattle.hex_text.specs.Digits.{blank, gap, digit_at, second_at}
 
 -- an octet in front of the others
 abbrev pub before : ℕ → Result (List ℕ) HexFault → Result (List ℕ) HexFault

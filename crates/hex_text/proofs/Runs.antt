@@ -3,13 +3,13 @@ use Rattle.std.proofs.Common.{◌≡◌, ℕ, ◌+◌, ◌*◌, ◌<◌, ◌≤�
 use Rattle.std.proofs.lemmas.List.{at_drop_more, at_drop_all, length-append}
 use Rattle.std.proofs.lemmas.Bool.{eqb-true, or_from}
 use Rattle.std.proofs.lemmas.Bool.Decides.{nat_tests}
-use Rattle.hex.specs.declared.text.HexFault.{HexFault}
-use Rattle.hex.specs.declared.text.HexFault.TheVariants.{Nothing, NoDigit, LoneDigit, BehindDash, Memory}
-use Rattle.hex.specs.declared.stage.Stage.{Stage}
-use Rattle.hex.specs.declared.stage.Stage.TheVariants.{Start, Dash, Half, Octet, Gap}
-use Rattle.hex.specs.Digits.{blank, gap, digit_at, second_at}
-use Rattle.hex.specs.Stages.{Small, next_stage, last_stage, half, whole}
-use Rattle.hex.specs.Text.{before, pair, octets_from, blanks_from, text_from, octets_of, Keeps, Reads}
+use Rattle.hex_text.specs.declared.text.HexFault.{HexFault}
+use Rattle.hex_text.specs.declared.text.HexFault.TheVariants.{Nothing, NoDigit, LoneDigit, BehindDash, Memory}
+use Rattle.hex_text.specs.declared.stage.Stage.{Stage}
+use Rattle.hex_text.specs.declared.stage.Stage.TheVariants.{Start, Dash, Half, Octet, Gap}
+use Rattle.hex_text.specs.Digits.{blank, gap, digit_at, second_at}
+use Rattle.hex_text.specs.Stages.{Small, next_stage, last_stage, half, whole}
+use Rattle.hex_text.specs.Text.{before, pair, octets_from, blanks_from, text_from, octets_of, Keeps, Reads}
 
 abbrev pub Said : Type 0
 Said = Result (List ℕ) HexFault

@@ -7,7 +7,7 @@ use Rattle.std.proofs.lemmas.List.{take_more}
 use Rattle.std.proofs.lemmas.Bool.{cond_both}
 use Rattle.std.specs.declared.fmt.Formatter.{Formatter}
 use Rattle.std.specs.Fmt.{HasWritten}
-use Rattle.hex.specs.Capitals.{capital, capitals}
+use Rattle.hex_text.specs.Capitals.{capital, capitals}
 
 capitals-push : (octets : List ℕ) (octet : ℕ) → capitals (octets ++ octet ∷ []) ≡ capitals octets ++ (capital (octet / 16) ∷ capital (octet % 16) ∷ [])
 capitals-push [] octet = refl

@@ -1,7 +1,7 @@
 -- The characters of hex text, by their codes, and the columns that they stand in.
 use Rattle.std.specs.Prelude.{ℕ, ◌-◌, Bool, cond, ◌&&◌, ◌||◌, Ok, Err, Result, ◌==◌, nat_le}
-use Rattle.hex.specs.declared.text.HexFault.{HexFault}
-use Rattle.hex.specs.declared.text.HexFault.TheVariants.{NoDigit, LoneDigit}
+use Rattle.hex_text.specs.declared.text.HexFault.{HexFault}
+use Rattle.hex_text.specs.declared.text.HexFault.TheVariants.{NoDigit, LoneDigit}
 
 -- a space, a tab or a carriage return
 abbrev pub blank : ℕ → Bool

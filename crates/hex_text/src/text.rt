@@ -1,7 +1,7 @@
 // Octets read from hex text.
 ghost use Rattle.std.specs.Prelude.{◌≡◌};
-ghost use Rattle.hex.specs.Text.{octets_of, Reads};
-ghost use Rattle.hex.specs.declared.text.HexFault.TheVariants.{Memory};
+ghost use Rattle.hex_text.specs.Text.{octets_of, Reads};
+ghost use Rattle.hex_text.specs.declared.text.HexFault.TheVariants.{Memory};
 
 use crate::stage::Stage;
 use std::alloc::{AllocError, AllocFailed, Global};

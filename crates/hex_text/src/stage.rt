@@ -1,7 +1,7 @@
 // Hex text, read one character after another.
 ghost use Rattle.std.specs.Prelude.{◌≡◌, ◌<◌, IfOk};
-ghost use Rattle.hex.specs.Digits.{blank, gap, digit_at};
-ghost use Rattle.hex.specs.Stages.{next_stage, last_stage, half, Small};
+ghost use Rattle.hex_text.specs.Digits.{blank, gap, digit_at};
+ghost use Rattle.hex_text.specs.Stages.{next_stage, last_stage, half, Small};
 
 use crate::text::HexFault;
 

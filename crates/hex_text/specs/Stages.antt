@@ -1,10 +1,10 @@
 -- What one character does to a reading of hex text, and where a text may end.
 use Rattle.std.specs.Prelude.{ℕ, ◌+◌, ◌*◌, ◌<◌, cond, Ok, Err, Result, ◌==◌}
-use Rattle.hex.specs.declared.text.HexFault.{HexFault}
-use Rattle.hex.specs.declared.text.HexFault.TheVariants.{Nothing, LoneDigit, BehindDash}
-use Rattle.hex.specs.declared.stage.Stage.{Stage}
-use Rattle.hex.specs.declared.stage.Stage.TheVariants.{Start, Dash, Half, Octet, Gap}
-use Rattle.hex.specs.Digits.{blank, gap, digit_at, second_at}
+use Rattle.hex_text.specs.declared.text.HexFault.{HexFault}
+use Rattle.hex_text.specs.declared.text.HexFault.TheVariants.{Nothing, LoneDigit, BehindDash}
+use Rattle.hex_text.specs.declared.stage.Stage.{Stage}
+use Rattle.hex_text.specs.declared.stage.Stage.TheVariants.{Start, Dash, Half, Octet, Gap}
+use Rattle.hex_text.specs.Digits.{blank, gap, digit_at, second_at}
 
 -- a first digit is below 16
 abbrev pub Small : Stage → Type 0

@@ -1,7 +1,7 @@
 use Rattle.std.proofs.Common.{take}
 use Rattle.std.specs.Fmt.{IsPlainFormatter, HasWritten}
-use Rattle.hex.specs.Capitals.{capitals}
-use Rattle.hex.proofs.octets.HexDisplay.fmt.Given as goal
+use Rattle.hex_text.specs.Capitals.{capitals}
+use Rattle.hex_text.proofs.octets.HexDisplay.fmt.Given as goal
 
 -- the octets so far are written
 abbrev pub invariant-loop-octet : goal.invariant-loop-octet

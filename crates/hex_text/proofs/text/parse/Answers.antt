@@ -2,10 +2,10 @@
 use Rattle.std.proofs.Common.{◌+◌, ◌++◌, get_or, is_ok, Ok, vec_items, sym, ap, ◌∙◌, subst, append-nil, arith}
 use Rattle.std.proofs.ResultArms.{chosen}
 use Rattle.std.proofs.lemmas.Result.{err_from_is_err_and}
-use Rattle.hex.specs.Stages.{next_stage}
-use Rattle.hex.proofs.Runs.{Sofar, ending, none_ends, starts, goes_on, stops, keeps, ends, ends_badly}
-use Rattle.hex.proofs.text.parse.Goals as goal
-use Rattle.hex.proofs.text.parse.Goals.{in-Octet+in-ok-push, in-default}
+use Rattle.hex_text.specs.Stages.{next_stage}
+use Rattle.hex_text.proofs.Runs.{Sofar, ending, none_ends, starts, goes_on, stops, keeps, ends, ends_badly}
+use Rattle.hex_text.proofs.text.parse.Goals as goal
+use Rattle.hex_text.proofs.text.parse.Goals.{in-Octet+in-ok-push, in-default}
 
 pub loop-place-init : goal.loop-place-init
 loop-place-init c = starts c.args.text.now _ c.new-octets.ensures.items
