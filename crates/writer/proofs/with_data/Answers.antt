@@ -7,5 +7,5 @@ pub returns : goal.returns
 returns c =
     record {
       size = simp length-append (omega (arith, c.front-from.ensures.size));
-      after = rw c.front-from.ensures.after (behind c.args.header.now c.args.data.now c.args.buffer.now c.copy-from-slice.new.self c.front-from.result _ c.front-from.ensures.size (omega arith) c.copy-from-slice.ensures.after);
+      after = rw c.front-from.ensures.after (behind c.args.header.now c.args.data.now c.args.buffer.now c.copy_from_slice.new.self c.front-from.result _ c.front-from.ensures.size (omega arith) c.copy_from_slice.ensures.after);
     }

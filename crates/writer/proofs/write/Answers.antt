@@ -8,20 +8,20 @@ use Rattle.reader.specs.Reading.{reading}
 use Rattle.writer.proofs.Back.{reads_back as back}
 use Rattle.writer.proofs.write.Goals as goal
 
-pub returns-then-buffer-lt-LARGEST-MESSAGE : goal.returns-then-buffer-lt-LARGEST-MESSAGE
-returns-then-buffer-lt-LARGEST-MESSAGE c =
-    let short : ltb (length c.args.buffer.now) 268 ≡ true = lt-ltb _ _ c.if-buffer-lt-LARGEST-MESSAGE.true in
+pub returns-then-buffer-lt-LARGEST_MESSAGE : goal.returns-then-buffer-lt-LARGEST_MESSAGE
+returns-then-buffer-lt-LARGEST_MESSAGE c =
+    let short : ltb (length c.args.buffer.now) 268 ≡ true = lt-ltb _ _ c.if-buffer-lt-LARGEST_MESSAGE.true in
     record { answer = rw short (ap Err c.at.ensures); after = rw short refl; reads_back = tt }
 
 pub returns : goal.returns
 returns c =
-    let long : ltb (length c.args.buffer.now) 268 ≡ false = le-ltb _ _ c.if-buffer-lt-LARGEST-MESSAGE.false in
+    let long : ltb (length c.args.buffer.now) 268 ≡ false = le-ltb _ _ c.if-buffer-lt-LARGEST_MESSAGE.false in
     let fits : within (meaning c.args.message) ≡ true = sym c.if-not-fits.ensures in
     let l = layout (meaning c.args.message) in
-    let front : take c.lay-out.result c.lay-out.new.buffer ≡ l =
-    rw (c.lay-out.ensures.0, c.lay-out.ensures.1) (take_at l (drop (length l) c.args.buffer.now) (length l) refl) in
+    let front : take c.lay_out.result c.lay_out.new.buffer ≡ l =
+    rw (c.lay_out.ensures.0, c.lay_out.ensures.1) (take_at l (drop (length l) c.args.buffer.now) (length l) refl) in
     record {
-      answer = rw (long, fits) (ap Ok c.lay-out.ensures.0);
-      after = rw (long, fits) c.lay-out.ensures.1;
+      answer = rw (long, fits) (ap Ok c.lay_out.ensures.0);
+      after = rw (long, fits) c.lay_out.ensures.1;
       reads_back = ap reading front ∙ back (meaning c.args.message) fits;
     }

@@ -5,39 +5,39 @@ use Rattle.std.proofs.lemmas.Result.{err_from_is_err_and}
 use Rattle.hex_text.specs.Stages.{next_stage}
 use Rattle.hex_text.proofs.Runs.{Sofar, ending, none_ends, starts, goes_on, stops, keeps, ends, ends_badly}
 use Rattle.hex_text.proofs.text.parse.Goals as goal
-use Rattle.hex_text.proofs.text.parse.Goals.{in-Octet+in-ok-push, in-default}
+use Rattle.hex_text.proofs.text.parse.Goals.{in-Octet+in_ok-push, in_default}
 
 pub loop-place-init : goal.loop-place-init
 loop-place-init c = starts c.args.text.now _ c.new-octets.ensures.items
 
-pub returns-in-err-stage : goal.returns-in-err-stage
-returns-in-err-stage c =
-    let p = err_from_is_err_and c.from-residual.result c.from-residual.ensures.1 in
-    let read = ap (λ t. next_stage c.loop-place.stage (get_or t c.loop-place.place 0) (c.loop-place.place + 1)) c.as-bytes-character-items.ensures.value in
-    rw (p.1, p.2) (stops c.loop-place.invariant c.in-err-stage.field-0.0 (omega arith) (c.in-err-stage.ensures.value ∙ read))
+pub returns-in_err-stage : goal.returns-in_err-stage
+returns-in_err-stage c =
+    let p = err_from_is_err_and c.from_residual.result c.from_residual.ensures.1 in
+    let read = ap (λ t. next_stage c.loop-place.stage (get_or t c.loop-place.place 0) (c.loop-place.place + 1)) c.as_bytes-character-items.ensures.value in
+    rw (p.1, p.2) (stops c.loop-place.invariant c.in_err-stage.field-0.0 (omega arith) (c.in_err-stage.ensures.value ∙ read))
 
-pub returns-in-err-push : goal.returns-in-err-push
-returns-in-err-push c =
-    let p = err_from_is_err_and c.from-residual-in-err-push.result c.from-residual-in-err-push.ensures.1 in
-    let read = ap (λ t. next_stage c.loop-place.stage (get_or t c.loop-place.place 0) (c.loop-place.place + 1)) c.as-bytes-character-items.ensures.value in
-    rw (p.1, p.2) (keeps c.loop-place.invariant c.in-Octet.octet (omega arith) (ap Ok (sym c.in-Octet.is) ∙ (c.in-ok-stage.ensures.value ∙ read)))
+pub returns-in_err-push : goal.returns-in_err-push
+returns-in_err-push c =
+    let p = err_from_is_err_and c.from_residual-in_err-push.result c.from_residual-in_err-push.ensures.1 in
+    let read = ap (λ t. next_stage c.loop-place.stage (get_or t c.loop-place.place 0) (c.loop-place.place + 1)) c.as_bytes-character-items.ensures.value in
+    rw (p.1, p.2) (keeps c.loop-place.invariant c.in-Octet.octet (omega arith) (ap Ok (sym c.in-Octet.is) ∙ (c.in_ok-stage.ensures.value ∙ read)))
 
 pub loop-place-preserved : goal.loop-place-preserved
 loop-place-preserved c =
-    let read = ap (λ t. next_stage c.loop-place.stage (get_or t c.loop-place.place 0) (c.loop-place.place + 1)) c.as-bytes-character-items.ensures.value in
-    let next = goes_on c.loop-place.invariant c.in-ok-stage.stage (omega arith) (c.in-ok-stage.ensures.value ∙ read) c.in-ok-stage.ensures.small in
+    let read = ap (λ t. next_stage c.loop-place.stage (get_or t c.loop-place.place 0) (c.loop-place.place + 1)) c.as_bytes-character-items.ensures.value in
+    let next = goes_on c.loop-place.invariant c.in_ok-stage.stage (omega arith) (c.in_ok-stage.ensures.value ∙ read) c.in_ok-stage.ensures.small in
     elim c.match-stage.branch [
-      | in-Octet+in-ok-push w ↦
-          let pushed = chosen _ _ _ _ w.push.ensures.items (ap is_ok w.in-ok-push.was) in
+      | in-Octet+in_ok-push w ↦
+          let pushed = chosen _ _ _ _ w.push.ensures.items (ap is_ok w.in_ok-push.was) in
           subst (Sofar _ _ _) (w.in-Octet.is ∙ sym w.stage-is) (next (vec_items c.match-stage.octets) (ap vec_items w.octets-is ∙ pushed ∙ ap (λ s. vec_items c.loop-place.octets ++ ending s) (sym w.in-Octet.is)))
-      | in-default w ↦
-          subst (Sofar _ _ _) (sym w.stage-is) (next (vec_items c.match-stage.octets) (ap vec_items w.octets-is ∙ sym (append-nil _) ∙ ap (λ l. vec_items c.loop-place.octets ++ l) (sym (none_ends _ w.in-default.not-Octet))))
+      | in_default w ↦
+          subst (Sofar _ _ _) (sym w.stage-is) (next (vec_items c.match-stage.octets) (ap vec_items w.octets-is ∙ sym (append-nil _) ∙ ap (λ l. vec_items c.loop-place.octets ++ l) (sym (none_ends _ w.in_default.not-Octet))))
     ]
 
-pub returns-in-err-end : goal.returns-in-err-end
-returns-in-err-end c =
-    let p = err_from_is_err_and c.from-residual-in-err-end.result c.from-residual-in-err-end.ensures.1 in
-    rw (p.1, p.2) (ends_badly c.loop-place.invariant c.in-err-end.field-0.0 (omega arith) c.in-err-end.ensures)
+pub returns-in_err-end : goal.returns-in_err-end
+returns-in_err-end c =
+    let p = err_from_is_err_and c.from_residual-in_err-end.result c.from_residual-in_err-end.ensures.1 in
+    rw (p.1, p.2) (ends_badly c.loop-place.invariant c.in_err-end.field-0.0 (omega arith) c.in_err-end.ensures)
 
 pub returns : goal.returns
-returns c = ends c.loop-place.invariant (omega arith) c.in-ok-end.ensures
+returns c = ends c.loop-place.invariant (omega arith) c.in_ok-end.ensures

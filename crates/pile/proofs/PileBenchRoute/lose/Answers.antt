@@ -6,27 +6,27 @@ use Rattle.pile.specs.Held.{pile_ways}
 use Rattle.pile.proofs.Means.{count_is}
 use Rattle.pile.proofs.PileBenchRoute.lose.Goals as goal
 
-pub returns-then-position-count-toward : goal.returns-then-position-count-toward
-returns-then-position-count-toward c =
+pub returns-then-position-count_toward : goal.returns-then-position-count_toward
+returns-then-position-count_toward c =
     let p = c.args.self.now in
-    let h = c.in-ok-end.ensures.named in
-    let x = count_is c.in-ok-end.end c.args.end p.records.items c.deref.result.now (p.records.len / 2) c.count-toward.result h.1 c.deref.ensures.value c.count-toward.ensures in
-    let t = lose_none c.args.end c.args.position (pile_ways p) h.0 (omega (arith, x, c.if-position-count-toward.true)) in
+    let h = c.in_ok-end.ensures.named in
+    let x = count_is c.in_ok-end.end c.args.end p.records.items c.deref.result.now (p.records.len / 2) c.count_toward.result h.1 c.deref.ensures.value c.count_toward.ensures in
+    let t = lose_none c.args.end c.args.position (pile_ways p) h.0 (omega (arith, x, c.if-position-count_toward.true)) in
     record { answer = ap (λ f. Err f) c.at.ensures ∙ t.0; after = t.1 }
 
-pub remove-at-requires : goal.remove-at-requires
-remove-at-requires c =
+pub remove_at-requires : goal.remove_at-requires
+remove_at-requires c =
     let p = c.args.self.now in
-    let e = c.in-ok-end.end in
-    let x = count_is e (end_number e) p.records.items c.deref.result.now (p.records.len / 2) c.count-toward.result refl c.deref.ensures.value c.count-toward.ensures in
-    omega (arith, x, c.if-position-count-toward.false)
+    let e = c.in_ok-end.end in
+    let x = count_is e (end_number e) p.records.items c.deref.result.now (p.records.len / 2) c.count_toward.result refl c.deref.ensures.value c.count_toward.ensures in
+    omega (arith, x, c.if-position-count_toward.false)
 
 pub returns : goal.returns
 returns c =
     let p = c.args.self.now in
     let w = pile_ways p in
     let k = c.args.position in
-    let h = c.in-ok-end.ensures.named in
-    let x = count_is c.in-ok-end.end c.args.end p.records.items c.deref.result.now (p.records.len / 2) c.count-toward.result h.1 c.deref.ensures.value c.count-toward.ensures in
-    let t = lose_fits c.args.end k w h.0 (omega (arith, x, c.if-position-count-toward.false)) in
-    record { answer = t.0; after = c.remove-at.ensures ∙ ap (λ e. with_toward e (without k (toward e w)) w) h.1 ∙ t.1 }
+    let h = c.in_ok-end.ensures.named in
+    let x = count_is c.in_ok-end.end c.args.end p.records.items c.deref.result.now (p.records.len / 2) c.count_toward.result h.1 c.deref.ensures.value c.count_toward.ensures in
+    let t = lose_fits c.args.end k w h.0 (omega (arith, x, c.if-position-count_toward.false)) in
+    record { answer = t.0; after = c.remove_at.ensures ∙ ap (λ e. with_toward e (without k (toward e w)) w) h.1 ∙ t.1 }

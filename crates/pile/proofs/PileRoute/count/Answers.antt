@@ -8,6 +8,6 @@ use Rattle.pile.proofs.PileRoute.count.Goals as goal
 pub returns : goal.returns
 returns c =
     let p = c.args.self.now in
-    let h = c.in-ok-end.ensures.named in
-    let x = count_is c.in-ok-end.end c.args.end p.records.items c.deref.result.now (p.records.len / 2) c.count-toward.result h.1 c.deref.ensures.value c.count-toward.ensures in
+    let h = c.in_ok-end.ensures.named in
+    let x = count_is c.in_ok-end.end c.args.end p.records.items c.deref.result.now (p.records.len / 2) c.count_toward.result h.1 c.deref.ensures.value c.count_toward.ensures in
     ap (λ n. Ok n) (c.capped.ensures ∙ ap (λ n. min n most) x) ∙ count_fits c.args.end (pile_ways p) h.0

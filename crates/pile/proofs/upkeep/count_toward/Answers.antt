@@ -5,7 +5,7 @@ use Rattle.pile.specs.declared.records.Record.{Record}
 use Rattle.pile.specs.Numbers.{toward_end}
 use Rattle.pile.proofs.Loops.{count_all}
 use Rattle.pile.proofs.upkeep.count_toward.Goals as goal
-use Rattle.pile.proofs.upkeep.count_toward.Goals.{then-is-toward, else-is-toward}
+use Rattle.pile.proofs.upkeep.count_toward.Goals.{then-is_toward, else-is_toward}
 
 pub loop-record-preserved : goal.loop-record-preserved
 loop-record-preserved c =
@@ -15,9 +15,9 @@ loop-record-preserved c =
     let x = c.record-item.result in
     let h = c.loop-record-test.true in
     let is = ap p (sym c.record-item.is) in
-    elim c.if-is-toward.branch [
-      | then-is-toward w ↦ omega (arith, w.count_is, count_by_more_yes p l i x h (is ∙ sym w.if-is-toward.ensures))
-      | else-is-toward w ↦ omega (arith, w.count_is, count_by_more_no p l i x h (is ∙ sym w.if-is-toward.ensures))
+    elim c.if-is_toward.branch [
+      | then-is_toward w ↦ omega (arith, w.count_is, count_by_more_yes p l i x h (is ∙ sym w.if-is_toward.ensures))
+      | else-is_toward w ↦ omega (arith, w.count_is, count_by_more_no p l i x h (is ∙ sym w.if-is_toward.ensures))
     ]
 
 pub returns : goal.returns

@@ -12,7 +12,7 @@ loop-record-preserved c =
     let i = c.loop-record.record-index in
     let x = c.record-item.result in
     over_more f c.args.records.now l i x _ c.loop-record-test.true c.loop-record.invariant c.record-item.is
-    (ap (λ (t : Tag). record { tag = t; slot = (get_or l i x).slot }) c.moved-up-record.ensures ∙ ap f (sym c.record-item.is))
+    (ap (λ (t : Tag). record { tag = t; slot = (get_or l i x).slot }) c.moved_up-record.ensures ∙ ap f (sym c.record-item.is))
 
 pub returns : goal.returns
 returns c =

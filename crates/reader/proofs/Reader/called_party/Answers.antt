@@ -2,21 +2,21 @@ use Rattle.std.proofs.Common.{rules}
 use Rattle.reader.specs.Reading.{called_party}
 use Rattle.reader.proofs.Reader.called_party.Goals as goal
 
-pub returns-in-err-variable : goal.returns-in-err-variable
+pub returns-in_err-variable : goal.returns-in_err-variable
 unfolding called_party
-returns-in-err-variable c = search rules
+returns-in_err-variable c = search rules
 
-pub returns-in-err-optional : goal.returns-in-err-optional
+pub returns-in_err-optional : goal.returns-in_err-optional
 unfolding called_party
-returns-in-err-optional c = search rules
+returns-in_err-optional c = search rules
 
-pub returns-in-err-points-here : goal.returns-in-err-points-here
+pub returns-in_err-points_here : goal.returns-in_err-points_here
 unfolding called_party
-returns-in-err-points-here c = search rules
+returns-in_err-points_here c = search rules
 
-pub returns-in-err-subsystem : goal.returns-in-err-subsystem
+pub returns-in_err-subsystem : goal.returns-in_err-subsystem
 unfolding called_party
-returns-in-err-subsystem c = search rules
+returns-in_err-subsystem c = search rules
 
 pub returns : goal.returns
 unfolding called_party

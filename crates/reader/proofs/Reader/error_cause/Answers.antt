@@ -2,13 +2,13 @@ use Rattle.std.proofs.Common.{rules}
 use Rattle.reader.specs.Reading.{field}
 use Rattle.reader.proofs.Reader.error_cause.Goals as goal
 
-pub returns-in-err-octet : goal.returns-in-err-octet
+pub returns-in_err-octet : goal.returns-in_err-octet
 unfolding field
-returns-in-err-octet c = search rules
+returns-in_err-octet c = search rules
 
-pub returns-in-default : goal.returns-in-default
+pub returns-in_default : goal.returns-in_default
 unfolding field
-returns-in-default c = search rules
+returns-in_default c = search rules
 
 pub returns-in-0 : goal.returns-in-0
 unfolding field

@@ -2,9 +2,9 @@ use Rattle.std.proofs.Common.{rules}
 use Rattle.reader.specs.Reading.{field}
 use Rattle.reader.proofs.Reader.field.Goals as goal
 
-pub returns-in-err-value : goal.returns-in-err-value
+pub returns-in_err-value : goal.returns-in_err-value
 unfolding field
-returns-in-err-value c = search rules
+returns-in_err-value c = search rules
 
 pub returns-then-value-low : goal.returns-then-value-low
 unfolding field

@@ -2,17 +2,17 @@ use Rattle.std.proofs.Common.{rules}
 use Rattle.reader.specs.Reading.{optional_part}
 use Rattle.reader.proofs.Reader.optional_part.Goals as goal
 
-pub returns-in-err-ends : goal.returns-in-err-ends
+pub returns-in_err-ends : goal.returns-in_err-ends
 unfolding optional_part
-returns-in-err-ends c = search rules
+returns-in_err-ends c = search rules
 
 pub returns-then-pointer-eq0 : goal.returns-then-pointer-eq0
 unfolding optional_part
 returns-then-pointer-eq0 c = search rules
 
-pub returns-in-err-points-here : goal.returns-in-err-points-here
+pub returns-in_err-points_here : goal.returns-in_err-points_here
 unfolding optional_part
-returns-in-err-points-here c = search rules
+returns-in_err-points_here c = search rules
 
 pub returns : goal.returns
 unfolding optional_part

@@ -6,9 +6,9 @@ pub returns-then-not-due : goal.returns-then-not-due
 unfolding credit_after
 returns-then-not-due c = search rules
 
-pub returns-then-is-some : goal.returns-then-is-some
+pub returns-then-is_some : goal.returns-then-is_some
 unfolding credit_after
-returns-then-is-some c = search rules
+returns-then-is_some c = search rules
 
 pub returns : goal.returns
 unfolding credit_after

@@ -18,5 +18,5 @@ returns c =
     record {
       says = says;
       laid_out = agrees c.args.octets.now (means c.message.result) says;
-      fits = read_limits c.message.result c.args.octets.now (λ i. (c.type-inv.octets i).fits) says;
+      fits = read_limits c.message.result c.args.octets.now (λ i. (c.type_inv.octets i).fits) says;
     }

@@ -8,6 +8,6 @@ use Rattle.ring.proofs.RingRoute.room.Goals as goal
 pub returns : goal.returns
 returns c =
     let w = ring_ways c.args.self.now in
-    let h = c.in-ok-numbered.ensures.named in
+    let h = c.in_ok-numbered.ensures.named in
     ap Ok (c.capped.ensures ∙ ap (λ n. min (w.capacity - n) most) (sym (counted c.args.self.now c.index-end.result c.index-end.ensures.below)))
     ∙ ap (λ e. Ok (min (w.capacity - length (toward e w)) most)) (c.index-end.ensures.value ∙ h.1) ∙ room_fits c.args.end w h.0

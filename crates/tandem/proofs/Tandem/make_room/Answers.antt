@@ -4,17 +4,17 @@ use Rattle.tandem.proofs.Tandem.make_room.Goals as goal
 
 pub returns-then-branch-gt0 : goal.returns-then-branch-gt0
 returns-then-branch-gt0 g c =
-    room_first c.args.end c.in-ok-room.field-0 (g.A.Route.ways c.args.self.now.first) (g.B.Route.ways c.args.self.now.second)
-    (g.met.B.Route.sound c.args.self.now.second) c.in-ok-room.ensures c.if-branch-gt0.true
+    room_first c.args.end c.in_ok-room.field-0 (g.A.Route.ways c.args.self.now.first) (g.B.Route.ways c.args.self.now.second)
+    (g.met.B.Route.sound c.args.self.now.second) c.in_ok-room.ensures c.if-branch-gt0.true
 
 pub returns-then-branch-eq0 : goal.returns-then-branch-eq0
 returns-then-branch-eq0 g c =
-    room_none c.args.end c.in-ok-room.field-0 c.in-ok-room-2.field-0 c.at.result (g.A.Route.ways c.args.self.now.first) (g.B.Route.ways c.args.self.now.second)
-    c.in-ok-room.ensures c.if-branch-gt0.false c.in-ok-room-2.ensures c.if-branch-eq0.true c.at.ensures
+    room_none c.args.end c.in_ok-room.field-0 c.in_ok-room-2.field-0 c.at.result (g.A.Route.ways c.args.self.now.first) (g.B.Route.ways c.args.self.now.second)
+    c.in_ok-room.ensures c.if-branch-gt0.false c.in_ok-room-2.ensures c.if-branch-eq0.true c.at.ensures
 
 pub returns : goal.returns
 returns g c =
-    room_moved c.args.end c.in-ok-room.field-0 c.in-ok-room-2.field-0 c.in-ok-size.size c.put.result (replicate 268 0) c.take.new.buffer
+    room_moved c.args.end c.in_ok-room.field-0 c.in_ok-room-2.field-0 c.in_ok-size.size c.put.result (replicate 268 0) c.take.new.buffer
     (g.A.Route.ways c.args.self.now.first) (g.B.Route.ways c.args.self.now.second) (g.A.Route.ways c.take.new.self) (g.B.Route.ways c.put.new.self)
-    (g.met.A.Route.sound c.args.self.now.first) c.in-ok-room.ensures c.if-branch-gt0.false c.in-ok-room-2.ensures c.if-branch-eq0.false
-    (lit≤ tt) c.in-ok-size.ensures.answer c.take.ensures.filled c.take.ensures.after c.put.ensures.answer c.put.ensures.after
+    (g.met.A.Route.sound c.args.self.now.first) c.in_ok-room.ensures c.if-branch-gt0.false c.in_ok-room-2.ensures c.if-branch-eq0.false
+    (lit≤ tt) c.in_ok-size.ensures.answer c.take.ensures.filled c.take.ensures.after c.put.ensures.answer c.put.ensures.after

@@ -3,6 +3,6 @@ use Rattle.tandem.proofs.TandemRoute.count.Goals as goal
 
 pub returns : goal.returns
 returns g c =
-    count_joined c.args.end c.in-ok-newer.newer c.in-ok-older.older c.saturating-add.result
+    count_joined c.args.end c.in_ok-newer.newer c.in_ok-older.older c.saturating_add.result
     (g.A.Route.ways c.args.self.now.first) (g.B.Route.ways c.args.self.now.second)
-    c.in-ok-newer.ensures c.in-ok-older.ensures c.saturating-add.ensures
+    c.in_ok-newer.ensures c.in_ok-older.ensures c.saturating_add.ensures

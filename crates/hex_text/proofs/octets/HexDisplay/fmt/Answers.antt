@@ -12,9 +12,9 @@ loop-octet-init g c = λ plain. record { wrote = writes_in_calls_nil g.W.Write.w
 pub loop-octet-preserved : goal.loop-octet-preserved
 loop-octet-preserved g c = λ plain.
     let before = c.loop-octet.invariant plain in
-    let high = c.write-char.ensures.writes before.plain (ap is_ok c.in-ok-write-char.was) in
-    let low = c.write-char-in-loop-octet.ensures.writes high.plain (ap is_ok c.in-ok-write-char-2.was) in
-    octet_more g.W.Write.write_str_gives _ _ _ _ c.args.self.now.0.now c.loop-octet.octet-index _ _ (omega arith) (omega arith) c.capital-of.ensures c.capital-of-in-loop-octet.ensures before high low
+    let high = c.write_char.ensures.writes before.plain (ap is_ok c.in_ok-write_char.was) in
+    let low = c.write_char-in-loop-octet.ensures.writes high.plain (ap is_ok c.in_ok-write_char-2.was) in
+    octet_more g.W.Write.write_str_gives _ _ _ _ c.args.self.now.0.now c.loop-octet.octet-index _ _ (omega arith) (omega arith) c.capital_of.ensures c.capital_of-in-loop-octet.ensures before high low
 
 pub returns-clause-writes : goal.returns-clause-writes
 returns-clause-writes g c = λ plain _. has_written_of_eq g.W.Write.write_str_gives _ _ _ _ (ap capitals (take_all c.loop-octet.octet-index c.args.self.now.0.now (omega arith))) (c.loop-octet.invariant plain)

@@ -15,14 +15,14 @@ pub returns-in-ConnectionRequest-clause-writes : goal.returns-in-ConnectionReque
 returns-in-ConnectionRequest-clause-writes g c =
     let at = c.in-ConnectionRequest in
     let text : ℕ → ℕ → List ℕ = λ n k. field "CR source=" at.source.0 (field " class=" n (field " subsystem=" at.subsystem.0 (last " credit=" k))) in
-    let says = (λ i. text (c.class-of-number.ensures i) (c.credit-of-credit.ensures i)) ∙ ap (λ m. line (meaning m)) (sym at.is) in
+    let says = (λ i. text (c.class_of-number.ensures i) (c.credit_of-credit.ensures i)) ∙ ap (λ m. line (meaning m)) (sym at.is) in
     displays_on_ok_of_eq g.W.Write.write_str_gives c.args.f.now c.write.new.self c.write.result _ _ (ap (λ l. Some l) says) c.write.ensures.writes
 
 pub returns-in-ConnectionConfirm-clause-writes : goal.returns-in-ConnectionConfirm-clause-writes
 returns-in-ConnectionConfirm-clause-writes g c =
     let at = c.in-ConnectionConfirm in
     let text : ℕ → ℕ → List ℕ = λ n k. field "CC destination=" at.destination.0 (field " source=" at.source.0 (field " class=" n (last " credit=" k))) in
-    let says = (λ i. text (c.class-of-number-in-ConnectionConfirm.ensures i) (c.credit-of-credit-in-ConnectionConfirm.ensures i)) ∙ ap (λ m. line (meaning m)) (sym at.is) in
+    let says = (λ i. text (c.class_of-number-in-ConnectionConfirm.ensures i) (c.credit_of-credit-in-ConnectionConfirm.ensures i)) ∙ ap (λ m. line (meaning m)) (sym at.is) in
     displays_on_ok_of_eq g.W.Write.write_str_gives c.args.f.now c.write-in-ConnectionConfirm.new.self c.write-in-ConnectionConfirm.result _ _ (ap (λ l. Some l) says) c.write-in-ConnectionConfirm.ensures.writes
 
 pub returns-in-ConnectionRefused-clause-writes : goal.returns-in-ConnectionRefused-clause-writes
@@ -73,5 +73,5 @@ pub returns-in-Error-clause-writes : goal.returns-in-Error-clause-writes
 returns-in-Error-clause-writes g c =
     let at = c.in-Error in
     let text : ℕ → List ℕ = λ n. field "ERR destination=" at.destination.0 (last " cause=" n) in
-    let says = ap text c.cause-of.ensures ∙ ap (λ m. line (meaning m)) (sym at.is) in
+    let says = ap text c.cause_of.ensures ∙ ap (λ m. line (meaning m)) (sym at.is) in
     displays_on_ok_of_eq g.W.Write.write_str_gives c.args.f.now c.write-in-Error.new.self c.write-in-Error.result _ _ (ap (λ l. Some l) says) c.write-in-Error.ensures.writes

@@ -6,17 +6,17 @@ use Rattle.pile.specs.Queues.{none_waiting, new_numbered}
 use Rattle.pile.proofs.Means.{means, new_means}
 use Rattle.pile.proofs.store.Pile.new.Goals as goal
 
-pub invariant-of-result : goal.invariant-of-result
-invariant-of-result c =
+pub invariant_of-result : goal.invariant_of-result
+invariant_of-result c =
     let v = c.args.records in
     let l = v.items in
     let all = written_over v c.clear.new.records c.deref-mut.result.now freed c.clear.ensures c.deref-mut.ensures.value in
     let W : List Record → Type 0 = λ m. (e : ℕ) → waiting e m ≤ v.len / 2 in
-    (omega (arith, c.if-len-lt-FEWEST-RECORDS.false, c.len.ensures), (subst W (sym all) (λ e. omega (arith, none_waiting e l)), (subst Numbered (sym all) (new_numbered l), tt)))
+    (omega (arith, c.if-len-lt-FEWEST_RECORDS.false, c.len.ensures), (subst W (sym all) (λ e. omega (arith, none_waiting e l)), (subst Numbered (sym all) (new_numbered l), tt)))
 
 pub returns : goal.returns
 returns c =
     let v = c.args.records in
     let l = v.items in
     let all = written_over v c.clear.new.records c.deref-mut.result.now freed c.clear.ensures c.deref-mut.ensures.value in
-    (omega (arith, c.if-len-lt-FEWEST-RECORDS.false, c.len.ensures), ap (λ (m : List Record). means m (v.len / 2)) all ∙ new_means l (v.len / 2))
+    (omega (arith, c.if-len-lt-FEWEST_RECORDS.false, c.len.ensures), ap (λ (m : List Record). means m (v.len / 2)) all ∙ new_means l (v.len / 2))

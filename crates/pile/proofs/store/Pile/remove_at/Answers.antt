@@ -7,8 +7,8 @@ use Rattle.pile.specs.Queues.{removed_within, removed_numbered}
 use Rattle.pile.proofs.Means.{means, counted, removed_means}
 use Rattle.pile.proofs.store.Pile.remove_at.Goals as goal
 
-pub invariant-of-self : goal.invariant-of-self
-invariant-of-self c =
+pub invariant_of-self : goal.invariant_of-self
+invariant_of-self c =
     let p = c.args.self.now in
     let v = p.records in
     let l = v.items in
