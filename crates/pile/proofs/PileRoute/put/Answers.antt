@@ -37,7 +37,11 @@ invariant_of-self c =
     let n = c.count_toward-number.ensures ∙ ap (λ v. waiting e v) c.deref.ensures.value in
     let f = subst (λ (v : List Record). FreeAt v i) c.deref-2.ensures.value c.free_place-place.ensures in
     let room : waiting e l < p.records.len / 2 = omega (arith, c.if-number-capacity.false, c.capacity.ensures) in
-    (p.some, (added_within end _ _ l i (p.records.len / 2) f room p.within, (added_numbered end c.count_toward-number.result _ l i n p.numbered f, tt)))
+    record {
+      some = p.some;
+      within = added_within end _ _ l i (p.records.len / 2) f room p.within;
+      numbered = added_numbered end c.count_toward-number.result _ l i n p.numbered f;
+    }
 
 pub returns : goal.returns
 returns c =

@@ -16,8 +16,8 @@ loop-record-preserved c =
     let h = c.loop-record-test.true in
     let is = ap p (sym c.record-item.is) in
     elim c.if-is_toward.branch [
-      | then-is_toward w ↦ omega (arith, w.count_is, count_by_more_yes p l i x h (is ∙ sym w.if-is_toward.ensures))
-      | else-is_toward w ↦ omega (arith, w.count_is, count_by_more_no p l i x h (is ∙ sym w.if-is_toward.ensures))
+      | then-is_toward w ↦ omega (arith, w.count-is, count_by_more_yes p l i x h (is ∙ sym w.if-is_toward.ensures))
+      | else-is_toward w ↦ omega (arith, w.count-is, count_by_more_no p l i x h (is ∙ sym w.if-is_toward.ensures))
     ]
 
 pub returns : goal.returns

@@ -10,13 +10,17 @@ pub invariant_of-result : goal.invariant_of-result
 invariant_of-result c =
     let v = c.args.records in
     let l = v.items in
-    let all = written_over v c.clear.new.records c.deref-mut.result.now freed c.clear.ensures c.deref-mut.ensures.value in
+    let all = written_over v c.clear.new.records c.deref_mut.result.now freed c.clear.ensures c.deref_mut.ensures.value in
     let W : List Record → Type 0 = λ m. (e : ℕ) → waiting e m ≤ v.len / 2 in
-    (omega (arith, c.if-len-lt-FEWEST_RECORDS.false, c.len.ensures), (subst W (sym all) (λ e. omega (arith, none_waiting e l)), (subst Numbered (sym all) (new_numbered l), tt)))
+    record {
+      some = omega (arith, c.if-len-lt-FEWEST_RECORDS.false, c.len.ensures);
+      within = subst W (sym all) (λ e. omega (arith, none_waiting e l));
+      numbered = subst Numbered (sym all) (new_numbered l);
+    }
 
 pub returns : goal.returns
 returns c =
     let v = c.args.records in
     let l = v.items in
-    let all = written_over v c.clear.new.records c.deref-mut.result.now freed c.clear.ensures c.deref-mut.ensures.value in
+    let all = written_over v c.clear.new.records c.deref_mut.result.now freed c.clear.ensures c.deref_mut.ensures.value in
     (omega (arith, c.if-len-lt-FEWEST_RECORDS.false, c.len.ensures), ap (λ (m : List Record). means m (v.len / 2)) all ∙ new_means l (v.len / 2))

@@ -15,9 +15,13 @@ invariant_of-self c =
     let e = end_number c.args.end in
     let k = c.args.position in
     let h : k < waiting e l = omega (arith, c.requires, counted c.args.end l (v.len / 2)) in
-    let all = written_over v c.remove.new.records c.deref-mut.result.now (with_moved_up e k) c.remove.ensures c.deref-mut.ensures.value in
+    let all = written_over v c.remove.new.records c.deref_mut.result.now (with_moved_up e k) c.remove.ensures c.deref_mut.ensures.value in
     let W : List Record → Type 0 = λ m. (d : ℕ) → waiting d m ≤ v.len / 2 in
-    (p.some, (subst W (sym all) (removed_within e k (v.len / 2) l p.numbered h p.within), (subst Numbered (sym all) (removed_numbered e k l p.numbered h), tt)))
+    record {
+      some = p.some;
+      within = subst W (sym all) (removed_within e k (v.len / 2) l p.numbered h p.within);
+      numbered = subst Numbered (sym all) (removed_numbered e k l p.numbered h);
+    }
 
 pub returns : goal.returns
 returns c =
@@ -27,5 +31,5 @@ returns c =
     let e = end_number c.args.end in
     let k = c.args.position in
     let h : k < waiting e l = omega (arith, c.requires, counted c.args.end l (v.len / 2)) in
-    let all = written_over v c.remove.new.records c.deref-mut.result.now (with_moved_up e k) c.remove.ensures c.deref-mut.ensures.value in
+    let all = written_over v c.remove.new.records c.deref_mut.result.now (with_moved_up e k) c.remove.ensures c.deref_mut.ensures.value in
     ap (λ (m : List Record). means m (v.len / 2)) all ∙ removed_means c.args.end k l (v.len / 2) p.numbered h
