@@ -10,15 +10,19 @@ mod usage;
 use failure::Failure;
 use input::{Reply, answer};
 use std::io::{BufRead, BufReader};
+use std::process::ExitCode;
 use std::{env, io};
 use usage::USAGE;
 
-fn main(rt: HostRuntime) -> Result<(), Failure> {
-    let result = run(&rt);
-    if let Err(failure) = &result {
-        eprintln!(rt; "decode: {failure}")?;
+fn main(rt: HostRuntime) -> ExitCode {
+    match run(&rt) {
+        Ok(()) => ExitCode::SUCCESS,
+        Err(failure) => {
+            // Where standard error fails too, the status alone tells.
+            let _ = eprintln!(rt; "decode: {failure}");
+            ExitCode::FAILURE
+        }
     }
-    result
 }
 
 fn run(rt: &HostRuntime) -> Result<(), Failure> {
