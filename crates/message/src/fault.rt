@@ -1,6 +1,6 @@
 // Why a call is refused: the one error type of the whole stack.
 ghost use Rattle.std.specs.Prelude.{◌≡◌};
-ghost use Rattle.message.specs.Refusals.{number as number_of_lem, layer as layer-of};
+ghost use Rattle.message.specs.Refusals.{number as number_of, layer as layer_of};
 
 // The part of the stack that refuses.
 #[derive(Clone, Copy)]
@@ -60,7 +60,7 @@ pub struct Fault {
 
 impl Refusal {
     pub fn number(self) -> u8
-        ensures { result ≡ number_of_lem self }
+        ensures { result ≡ number_of self }
     {
         match self {
             Refusal::MemorySize => 1,
@@ -85,7 +85,7 @@ impl Refusal {
     }
 
     pub fn layer(self) -> Layer
-        ensures { result ≡ layer-of self }
+        ensures { result ≡ layer_of self }
     {
         match self.number() {
             2 | 3 | 18 => Layer::Route,

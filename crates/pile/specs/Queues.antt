@@ -13,7 +13,10 @@ use Rattle.route.specs.declared.end.End.TheVariants.{Zero, One}
 use Rattle.route.specs.declared.slot.Slot.{Slot}
 use Rattle.route.specs.Stored.{message_of}
 use Rattle.route.proofs.Slots.{sized}
-use Rattle.route.specs.Ways.{Messages, without}
+use Rattle.route.specs.Ways.{Messages, Sound, without}
+use Rattle.route.proofs.Calls.{sound_of}
+use Rattle.pile.specs.declared.store.Pile.{Pile}
+use Rattle.pile.specs.Held.{pile_ways}
 use Rattle.pile.specs.declared.records.Tag.{Tag}
 use Rattle.pile.specs.declared.records.Tag.TheVariants.{Free, Waiting}
 use Rattle.pile.specs.declared.records.Record.{Record}
@@ -274,3 +277,9 @@ new_numbered l e k =
 
 pub new_order : (e : ℕ) (l : List Record) → in_order e (map freed l) ≡ []
 new_order e l = ap (λ n. map (λ k. message_numbered e k (map freed l)) (range_with_len 0 n)) (none_waiting e l)
+
+-- what a pile means is sound
+pub pile_sound : (p : Pile) → Sound (pile_ways p)
+pile_sound p =
+    let l = p.records.items in
+    sound_of (λ e. in_order e l) (p.records.len / 2) (omega (arith, p.some)) (λ e _. omega (arith, length-order e l, p.within e)) (λ e k _ h. sized-order e k l p.numbered h)

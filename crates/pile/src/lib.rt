@@ -6,10 +6,7 @@ ghost use Rattle.message.specs.declared.fault.Refusal.TheVariants.{MemorySize};
 ghost use Rattle.route.specs.Ends.{end_number};
 ghost use Rattle.route.specs.Ways.{empty_ways, toward, with_toward, without};
 ghost use Rattle.pile.specs.Held.{pile_ways};
-ghost use Rattle.std.proofs.Common.{arith};
-ghost use Rattle.route.proofs.Calls.{sound_of};
-ghost use Rattle.pile.specs.Numbers.{in_order};
-ghost use Rattle.pile.specs.Queues.{length-order, sized-order};
+ghost use Rattle.pile.specs.Queues.{pile_sound};
 
 use message::fault::{Fault, Refusal};
 use message::kind;
@@ -60,9 +57,7 @@ impl Pile {
 impl Route for Pile {
     ghost ways = { pile_ways };
 
-    ghost sound = { λ s.
-        let l = s.records.items in
-        sound_of (λ e. in_order e l) (s.records.len / 2) (omega (arith, s.some)) (λ e _. omega (arith, length-order e l, s.within e)) (λ e k _ h. sized-order e k l s.numbered h) };
+    ghost sound = { pile_sound };
 
     fn put(&mut self, end: u32, message: &[u8]) -> Result<(), Fault> {
         let end = End::numbered(end)?;

@@ -7,11 +7,11 @@ use Rattle.std.proofs.lemmas.List.{map-set, get_or-map, get_or-set_same, get_or-
 use Rattle.std.proofs.lemmas.List.Edits.{length-remove, get_or-remove_below, get_or-remove_above}
 use Rattle.std.proofs.lemmas.List.FromFn.{length-map-range_with_len, get_or-map-range_with_len, map-range_with_len_more, fill_by_all}
 use Rattle.route.specs.declared.slot.Slot.{Slot}
-use Rattle.route.specs.Ways.{Messages, toward, without}
+use Rattle.route.specs.Ways.{Messages, Sound, toward, without}
 use Rattle.route.specs.Stored.{message_of}
 use Rattle.route.proofs.Slots.{sized}
 use Rattle.ring.specs.declared.ring.Ring.{Ring}
-use Rattle.route.proofs.Calls.{toward_of}
+use Rattle.route.proofs.Calls.{toward_of, sound_of}
 use Rattle.ring.specs.Turns.{wrap, place, message_at, turn, turns, queue, ring_ways}
 use Rattle.ring.specs.Places.{place_below, place_apart, half_apart, place_next}
 
@@ -111,3 +111,10 @@ sized-turns l e n h c k p a b i j =
     let z : k < c = omega (arith, length-turns l e n h c) in
     subst (λ m. (0 < length m) × (length m ≤ 268)) (sym (at-turns l e n h c k z))
     (sized-at l (place e n h k) (omega (arith, place_below e n h k p a (omega arith))))
+
+-- what a ring means is sound
+pub ring_sound : (r : Ring) → Sound (ring_ways r)
+ring_sound r =
+    let turned = length-turns r.slots.items in
+    sound_of (queue r) r.capacity r.some (λ e h. omega (arith, turned e r.capacity (slice_index r.oldest e) (slice_index r.count e), r.within e h))
+    (λ e k h i. sized-turns r.slots.items e r.capacity (slice_index r.oldest e) (slice_index r.count e) k h (r.inside e h) (r.within e h) (omega (arith, r.halves, r.slots.ok.0)) i)

@@ -5,10 +5,8 @@ ghost use Rattle.std.specs.Prelude.{◌≡◌, ◌+◌, ◌/◌, ◌<◌, ◌≤
 ghost use Rattle.message.specs.declared.fault.Refusal.TheVariants.{MemorySize};
 ghost use Rattle.route.specs.Ways.{empty_ways, toward, with_toward, oldest, without};
 ghost use Rattle.route.specs.Stored.{message_of};
-ghost use Rattle.ring.specs.Turns.{wrap, place, ring_ways, queue};
-ghost use Rattle.std.proofs.Common.{arith};
-ghost use Rattle.route.proofs.Calls.{sound_of};
-ghost use Rattle.ring.specs.Queues.{length-turns, sized-turns};
+ghost use Rattle.ring.specs.Turns.{wrap, place, ring_ways};
+ghost use Rattle.ring.specs.Queues.{ring_sound};
 
 use message::fault::{Fault, Refusal};
 use message::kind;
@@ -103,9 +101,7 @@ impl Ring {
 impl Route for Ring {
     ghost ways = { ring_ways };
 
-    ghost sound = { λ s.
-        sound_of (queue s) s.capacity s.some (λ e h. omega (arith, length-turns s.slots.items e s.capacity (slice_index s.oldest e) (slice_index s.count e), s.within e h))
-        (λ e k h i. sized-turns s.slots.items e s.capacity (slice_index s.oldest e) (slice_index s.count e) k h (s.inside e h) (s.within e h) (omega (arith, s.halves, s.slots.ok.0)) i) };
+    ghost sound = { ring_sound };
 
     fn put(&mut self, end: u32, message: &[u8]) -> Result<(), Fault> {
         let end = End::numbered(end)?.index();
