@@ -6,7 +6,6 @@ use Rattle.std.proofs.lemmas.Bool.Decides.{nat_tests}
 use Rattle.message.specs.declared.fault.Fault.{Fault}
 use Rattle.message.specs.declared.fault.Refusal.TheVariants.{CutShort, VariablePart}
 use Rattle.reader.specs.Window.{Window, then, lift}
-use Rattle.message.specs.Content as content
 use Rattle.message.specs.Content.{Content}
 use Rattle.reader.specs.Reading.{header, octet, ends, reference, field, sequence_number, pointer, points_here, variable, counted, called_address, segment, called_party, optional_part, agreed, two_references, connection_request, connection_confirm, connection_refused, released, release_complete, data_form_1, data_form_2, data_acknowledgement, reset_request, reset_confirm, error, message_of, value, reading}
 use Rattle.message.specs.Layout.{IsReference, IsOptional, Points, LaidOut, IsMessage, more_octet}

@@ -1,5 +1,5 @@
 -- What each call does where it is accepted, and where a list is full or empty, in plain facts.
-use Rattle.std.proofs.Common.{◌≡◌, ℕ, zero, suc, ◌+◌, ◌-◌, ◌<◌, ◌≤◌, min, Bool, true, false, cond, eqb, ◌≢◌, List, [], ◌∷◌, ◌++◌, length, get_or, drop, Ok, sym, refl, ap, ◌∙◌, arith, lit<}
+use Rattle.std.proofs.Common.{◌≡◌, ℕ, zero, suc, ◌-◌, ◌<◌, ◌≤◌, min, Bool, true, false, cond, eqb, ◌≢◌, List, [], ◌∷◌, ◌++◌, length, get_or, drop, Ok, sym, refl, ap, ◌∙◌, arith, lit<}
 use Rattle.std.proofs.lemmas.Bool.{lt-leb, le-leb, le-ltb, ne_eqb, eq-eqb}
 use Rattle.message.specs.declared.fault.Refusal.TheVariants.{NoMessage, WayFull}
 use Rattle.route.specs.Ways.{Ways, Sound, Messages, ways_of, toward, with_toward, message_sized, refused, fronted, oldest, without, most}

@@ -1,12 +1,12 @@
 -- The laws of every route.
-use Rattle.std.proofs.Common.{◌≡◌, ℕ, ◌+◌, ◌-◌, ◌<◌, Bool, true, false, cond, ◌&&◌, eqb, ltb, leb, ◌≢◌, ◌⊎◌, List, [], ◌∷◌, ◌++◌, length, take, drop, is_ok, Ok, Result, sym, refl, ap, ◌∙◌, subst, inl, inr, ⊎_elim, append_assoc, append-nil, arith}
+use Rattle.std.proofs.Common.{◌≡◌, ℕ, ◌<◌, Bool, true, false, cond, ◌&&◌, eqb, ltb, leb, ◌≢◌, ◌⊎◌, List, [], ◌∷◌, ◌++◌, length, take, drop, is_ok, Ok, Result, sym, refl, ap, ◌∙◌, subst, inl, inr, ⊎_elim, append_assoc, append-nil, arith}
 use Rattle.std.proofs.lemmas.Bool.Decides.{nat_tests}
 use Rattle.std.proofs.lemmas.Bool.{cases_Bool, cases_eq, leb-false, eqb-false, eq-eqb, ne_eqb, and_parts, and_right, true≢false, false≢true}
 use Rattle.std.proofs.lemmas.List.{drop_more, take_at}
 use Rattle.message.specs.declared.fault.Fault.{Fault}
 use Rattle.route.specs.Ways.{Ways, Messages, toward, with_toward, message_sized, oldest, fronted, without}
 use Rattle.route.specs.Ways.{put_answer, put_after, take_answer, take_buffer, take_after, lose_answer, lose_after}
-use Rattle.route.specs.Runs.{Call, put, take as take-call, count, room, lose, accepted, after, keeps, entered, taken, after_all, all_entered, all_taken, all_keep}
+use Rattle.route.specs.Runs.{Call, put, take as take-call, count, room, lose, after, keeps, entered, taken, after_all, all_entered, all_taken, all_keep}
 use Rattle.route.specs.Laws.{Laws, InOrder, ComesOutInOrder, NothingLostUnasked, TakenIsOldest, CountAndRoom, OtherEndStays, RefusalAltersNothing}
 use Rattle.route.proofs.Calls.{toward_same, toward_other}
 use Rattle.route.proofs.Orders.{whole_of, through, behind, ahead_of, one_lost}

@@ -1,5 +1,5 @@
 -- Lists with some messages left out.
-use Rattle.std.proofs.Common.{◌≡◌, ℕ, zero, suc, ◌+◌, [], ◌∷◌, ◌++◌, take, drop, sym, subst, add-one}
+use Rattle.std.proofs.Common.{◌≡◌, ℕ, zero, suc, [], ◌∷◌, ◌++◌, take, drop, sym, subst, add-one}
 use Rattle.route.specs.Ways.{Messages, without}
 use Rattle.route.specs.Laws.{InOrder, none, both, lost}
 

@@ -1,5 +1,5 @@
 -- A message that is put, and the oldest one that is then taken.
-use Rattle.std.proofs.Common.{◌≡◌, ℕ, ◌+◌, ◌<◌, ◌≤◌, true, false, cond, List, [], ◌∷◌, ◌++◌, length, take, drop, is_ok, Ok, Err, sym, ap, ◌∙◌, ⊎_elim, arith, length-append}
+use Rattle.std.proofs.Common.{◌≡◌, ℕ, ◌<◌, ◌≤◌, cond, List, [], ◌∷◌, ◌++◌, length, take, drop, is_ok, Ok, Err, sym, ap, ◌∙◌, ⊎_elim, arith, length-append}
 use Rattle.std.proofs.lemmas.Bool.{true≢false}
 use Rattle.message.specs.declared.fault.Fault.{Fault}
 use Rattle.route.specs.Ways.{Ways, Messages, toward, with_toward, oldest, put_answer, put_after, take_answer, take_buffer, take_after}

@@ -1,5 +1,5 @@
 -- What stands at the front of a buffer after one part was written behind another.
-use Rattle.std.proofs.Common.{◌≡◌, ℕ, ◌+◌, List, ◌++◌, length, drop, sym, refl, ◌∙◌, arith}
+use Rattle.std.proofs.Common.{◌≡◌, ℕ, List, ◌++◌, length, drop, sym, refl, ◌∙◌, arith}
 use borrow.Rule.Slice.PartMut.{put_mid}
 use Rattle.std.proofs.lemmas.List.{length-append, take_at, drop_at, drop-drop, take_all}
 use Rattle.std.proofs.lemmas.Slice.{put_mid-paste}
