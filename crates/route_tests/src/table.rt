@@ -2,7 +2,6 @@
 use message::fault::{Fault, Refusal};
 use route::BenchRoute;
 use std::process::Abort;
-use std::test::Fail;
 
 // A call, and behind what it is given its answer.
 #[derive(Clone, Copy)]
@@ -89,32 +88,19 @@ const TABLE: [Step; 37] = [
 ];
 
 // Makes each call of the table in turn, and compares its answer.
-pub(crate) fn drive<R: BenchRoute>(rt: &impl Abort, route: &mut R) -> Result<(), Fail> {
+pub(crate) fn drive<R: BenchRoute>(rt: &impl Abort, route: &mut R) {
     for step in TABLE {
-        make(rt, route, step)?;
+        make(rt, route, step);
     }
-    Ok(())
 }
 
-fn make<R: BenchRoute>(rt: &impl Abort, route: &mut R, step: Step) -> Result<(), Fail> {
+fn make<R: BenchRoute>(rt: &impl Abort, route: &mut R, step: Step) {
     match step {
-        Step::Put(end, message, answer) => {
-            assert_eq!(rt; route.put(end, message), answer);
-            Ok(())
-        },
+        Step::Put(end, message, answer) => assert_eq!(rt; route.put(end, message), answer),
         Step::Take(end, answer) => take(rt, route, end, answer),
-        Step::Lose(end, position, answer) => {
-            assert_eq!(rt; route.lose(end, position), answer);
-            Ok(())
-        },
-        Step::Count(end, answer) => {
-            assert_eq!(rt; route.count(end), answer);
-            Ok(())
-        },
-        Step::Room(end, answer) => {
-            assert_eq!(rt; route.room(end), answer);
-            Ok(())
-        },
+        Step::Lose(end, position, answer) => assert_eq!(rt; route.lose(end, position), answer),
+        Step::Count(end, answer) => assert_eq!(rt; route.count(end), answer),
+        Step::Room(end, answer) => assert_eq!(rt; route.room(end), answer),
     }
 }
 
@@ -124,7 +110,7 @@ fn take<R: BenchRoute>(
     route: &mut R,
     end: u32,
     answer: Result<&'static [u8], Fault>,
-) -> Result<(), Fail> {
+) {
     let mut buffer = [0xeeu8; 300];
     let taken = route.take(end, &mut buffer);
     match answer {
@@ -133,12 +119,10 @@ fn take<R: BenchRoute>(
             assert!(rt; message.len() <= 268);
             assert_eq!(rt; &buffer[0..message.len()], message);
             assert!(rt; buffer[message.len()] == 0xee);
-            Ok(())
         }
         Err(fault) => {
             assert_eq!(rt; taken, Err(fault));
             assert!(rt; buffer[0] == 0xee);
-            Ok(())
         }
     }
 }

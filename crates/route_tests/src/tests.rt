@@ -18,27 +18,31 @@ fn pile(heap: Global, records: usize) -> Result<Pile, Fail> {
 // Half of six slots, rounded down.
 #[test]
 fn ring_by_the_table(rt: HostRuntime) -> Result<(), Fail> {
-    drive(&rt, &mut ring(rt.alloc(), 6)?)
+    drive(&rt, &mut ring(rt.alloc(), 6)?);
+    Ok(())
 }
 
 // Half of seven records, rounded down.
 #[test]
 fn pile_by_the_table(rt: HostRuntime) -> Result<(), Fail> {
-    drive(&rt, &mut pile(rt.alloc(), 7)?)
+    drive(&rt, &mut pile(rt.alloc(), 7)?);
+    Ok(())
 }
 
 // Parts of unequal size: room for one message, and for two.
 #[test]
 fn tandem_by_the_table(rt: HostRuntime) -> Result<(), Fail> {
     let heap = rt.alloc();
-    drive(&rt, &mut Tandem::new(ring(heap, 2)?, pile(heap, 5)?))
+    drive(&rt, &mut Tandem::new(ring(heap, 2)?, pile(heap, 5)?));
+    Ok(())
 }
 
 #[test]
 fn tandem_of_a_tandem_by_the_table(rt: HostRuntime) -> Result<(), Fail> {
     let heap = rt.alloc();
     let inner = Tandem::new(ring(heap, 2)?, pile(heap, 2)?);
-    drive(&rt, &mut Tandem::new(inner, ring(heap, 3)?))
+    drive(&rt, &mut Tandem::new(inner, ring(heap, 3)?));
+    Ok(())
 }
 
 // One slot, or one record, is too few.
