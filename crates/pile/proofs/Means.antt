@@ -9,7 +9,7 @@ use Rattle.route.specs.Ways.{Ways, Messages, ways_of, empty_ways, toward, with_t
 use Rattle.route.proofs.Calls.{toward_of, changed_by}
 use Rattle.pile.specs.declared.records.Record.{Record}
 use Rattle.pile.specs.Numbers.{FreeAt, waiting, holders, Numbered, message_numbered, in_order, with_moved_up, freed}
-use Rattle.pile.specs.Queues.{record_of, length-order, at-order, some_oldest, no_oldest, removed_same, removed_other, added_same, added_other, new_order}
+use Rattle.pile.specs.Queues.{record_of, length-order, at_order, some_oldest, no_oldest, removed_same, removed_other, added_same, added_other, new_order}
 
 -- what records mean at a capacity
 abbrev pub means : List Record → ℕ → Ways
@@ -61,7 +61,7 @@ oldest_is end e l s n m h a u c =
     let P : ℕ → Type 0 = λ b. (0 < length (toward b (means l n))) × (m ≡ oldest (toward b (means l n))) in
     subst P h (
       omega (arith, counted end l n),
-      c.1 ∙ ap (λ v. message_numbered d 0 v) a ∙ sym (at-order d 0 l some) ∙ ap oldest (sym (toward_means end l n)),
+      c.1 ∙ ap (λ v. message_numbered d 0 v) a ∙ sym (at_order d 0 l some) ∙ ap oldest (sym (toward_means end l n)),
     )
 
 pub none_is : (end : End) (e : ℕ) (l s : List Record) (n : ℕ) → end_number end ≡ e → s ≡ l → Numbered l → holders (end_number end) 0 s ≡ 0 → length (toward e (means l n)) ≡ 0

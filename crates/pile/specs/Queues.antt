@@ -30,16 +30,16 @@ sum_over f g h e (x ∷ l) =
     let here = e x in
     omega (arith, sum_by-cons g (f x) (map f l), sum_by-cons h x l)
 
-sum-parts : {X : Type 0} (f g h : X → ℕ) → ((x : X) → f x + g x ≡ h x) → (l : List X) → sum_by f l + sum_by g l ≡ sum_by h l
-sum-parts f g h e [] = refl
-sum-parts f g h e (x ∷ l) =
-    let rest = sum-parts f g h e l in
+sum_parts : {X : Type 0} (f g h : X → ℕ) → ((x : X) → f x + g x ≡ h x) → (l : List X) → sum_by f l + sum_by g l ≡ sum_by h l
+sum_parts f g h e [] = refl
+sum_parts f g h e (x ∷ l) =
+    let rest = sum_parts f g h e l in
     let here = e x in
     omega (arith, sum_by-cons f x l, sum_by-cons g x l, sum_by-cons h x l)
 
-sum-none : {X : Type 0} (f : X → ℕ) → ((x : X) → f x ≡ 0) → (l : List X) → sum_by f l ≡ 0
-sum-none f e [] = refl
-sum-none f e (x ∷ l) = let rest = sum-none f e l in let here = e x in omega (arith, sum_by-cons f x l)
+sum_none : {X : Type 0} (f : X → ℕ) → ((x : X) → f x ≡ 0) → (l : List X) → sum_by f l ≡ 0
+sum_none f e [] = refl
+sum_none f e (x ∷ l) = let rest = sum_none f e l in let here = e x in omega (arith, sum_by-cons f x l)
 
 sum_ones : {X : Type 0} (l : List X) → sum_by (λ _. 1) l ≡ length l
 sum_ones [] = refl
@@ -61,8 +61,8 @@ all_records : (l : List Record) → waiting 0 l + waiting 1 l + unoccupied l ≡
 all_records l =
     let f : ℕ → Record → ℕ = λ e r. cond (toward_end e r.tag) 1 0 in
     let free : Record → ℕ = λ r. cond (is_free r.tag) 1 0 in
-    ap (λ n. n + unoccupied l) (sum-parts (f 0) (f 1) (λ r. f 0 r + f 1 r) (λ r. refl) l)
-    ∙ sum-parts (λ r. f 0 r + f 1 r) free (λ _. 1) (λ r. parts r.tag) l ∙ sum_ones l
+    ap (λ n. n + unoccupied l) (sum_parts (f 0) (f 1) (λ r. f 0 r + f 1 r) (λ r. refl) l)
+    ∙ sum_parts (λ r. f 0 r + f 1 r) free (λ _. 1) (λ r. parts r.tag) l ∙ sum_ones l
 
 -- the queue number that j was before the number k went, and how a record's use shows it
 abbrev before : ℕ → ℕ → ℕ
@@ -88,15 +88,15 @@ toward_other d e k (Waiting c n) h = grind (arith, nat_tests)
 pub length-order : (e : ℕ) (l : List Record) → length (in_order e l) ≡ waiting e l
 length-order e l = length-map-range_with_len (λ k. message_numbered e k l) 0 (waiting e l)
 
-pub at-order : (e k : ℕ) (l : List Record) → k < waiting e l → slice_index_or (in_order e l) k [] ≡ message_numbered e k l
-at-order e k l h = get_or-map-range_with_len (λ j. message_numbered e j l) 0 (waiting e l) k k [] h (omega arith)
+pub at_order : (e k : ℕ) (l : List Record) → k < waiting e l → slice_index_or (in_order e l) k [] ≡ message_numbered e k l
+at_order e k l h = get_or-map-range_with_len (λ j. message_numbered e j l) 0 (waiting e l) k k [] h (omega arith)
 
 -- a list of the messages by their numbers is the queue
 is_order : (e : ℕ) (l : List Record) (q : Messages) → length q ≡ waiting e l → ((k : ℕ) → k < waiting e l → slice_index_or q k [] ≡ message_numbered e k l) → q ≡ in_order e l
 is_order e l q n f = fill_by_all (λ k. message_numbered e k l) q (waiting e l) [] n f
 
 same_order : (e : ℕ) (l m : List Record) → waiting e m ≡ waiting e l → ((k : ℕ) → k < waiting e l → message_numbered e k m ≡ message_numbered e k l) → in_order e m ≡ in_order e l
-same_order e l m n f = is_order e l (in_order e m) (length-order e m ∙ n) (λ k h. at-order e k m (omega arith) ∙ f k h)
+same_order e l m n f = is_order e l (in_order e m) (length-order e m ∙ n) (λ k h. at_order e k m (omega arith) ∙ f k h)
 
 -- each message has 1 to 268 octets
 sized-numbered : (e k : ℕ) (l : List Record) → 0 < holders e k l → (0 < length (message_numbered e k l)) × (length (message_numbered e k l) ≤ 268)
@@ -117,7 +117,7 @@ sized-order e k l u h =
     let i : k < waiting e l = omega (arith, length-order e l) in
     let some : 0 < holders e k l = let n = u e k in grind (arith, nat_tests) in
     let P : List ℕ → Type 0 = λ m. (0 < length m) × (length m ≤ 268) in
-    subst P (sym (at-order e k l i)) (sized-numbered e k l some)
+    subst P (sym (at_order e k l i)) (sized-numbered e k l some)
 
 -- the oldest message, if there is one
 pub some_oldest : (e : ℕ) (l : List Record) → Numbered l → 0 < holders e 0 l → 0 < waiting e l
@@ -141,7 +141,7 @@ fewer : (e k : ℕ) (l : List Record) → Numbered l → k < waiting e l → wai
 fewer e k l u h =
     let one : holders e k l ≡ 1 = let n = u e k in grind (arith, nat_tests) in
     let moved = sum_over (with_moved_up e k) (λ r. cond (toward_end e r.tag) 1 0) (λ r. cond (toward_end e (moved_up e k r.tag)) 1 0) (λ r. refl) l in
-    let both = sum-parts (λ (r : Record). cond (toward_end e (moved_up e k r.tag)) 1 0) (λ r. cond (waits e k r.tag) 1 0) (λ r. cond (toward_end e r.tag) 1 0) (λ r. toward_same e k r.tag) l in
+    let both = sum_parts (λ (r : Record). cond (toward_end e (moved_up e k r.tag)) 1 0) (λ r. cond (waits e k r.tag) 1 0) (λ r. cond (toward_end e r.tag) 1 0) (λ r. toward_same e k r.tag) l in
     omega arith
 
 as_many : (d e k : ℕ) (l : List Record) → d ≢ e → waiting d (map (with_moved_up e k) l) ≡ waiting d l
@@ -180,8 +180,8 @@ removed_same e k l u h =
     let hq : k < length q = omega arith in
     let at : (j : ℕ) → j < waiting e m → slice_index_or (remove q k) j [] ≡ message_numbered e j m = λ j i.
     (⊎_elim
-    (λ (b : j < k). get_or-remove_below q k [] j b hq ∙ at-order e j l (omega arith) ∙ ap (λ v. message_numbered e v l) (sym (cond-true (nat_lt j k) j (j + 1) (grind (arith, nat_tests)))))
-    (λ b. get_or-remove_above q k [] j b hq ∙ at-order e (j + 1) l (omega arith) ∙ ap (λ v. message_numbered e v l) (sym (cond-false (nat_lt j k) j (j + 1) (grind (arith, nat_tests)))))
+    (λ (b : j < k). get_or-remove_below q k [] j b hq ∙ at_order e j l (omega arith) ∙ ap (λ v. message_numbered e v l) (sym (cond-true (nat_lt j k) j (j + 1) (grind (arith, nat_tests)))))
+    (λ b. get_or-remove_above q k [] j b hq ∙ at_order e (j + 1) l (omega arith) ∙ ap (λ v. message_numbered e v l) (sym (cond-false (nat_lt j k) j (j + 1) (grind (arith, nat_tests)))))
     (cases_lt j k))
     ∙ sym (numbered_over e j (before k j) e k l (moved_same e k j)) in
     sym (ap (λ v. take k q ++ drop v q) (add-one k) ∙ is_order e m (remove q k) (omega (arith, length-remove q k hq)) at)
@@ -267,12 +267,12 @@ some_free One l h w = omega (arith, all_records l, w 0)
 
 -- a new pile
 pub none_waiting : (e : ℕ) (l : List Record) → waiting e (map freed l) ≡ 0
-none_waiting e l = sum_over freed (λ r. cond (toward_end e r.tag) 1 0) (λ _. 0) (λ r. refl) l ∙ sum-none (λ _. 0) (λ r. refl) l
+none_waiting e l = sum_over freed (λ r. cond (toward_end e r.tag) 1 0) (λ _. 0) (λ r. refl) l ∙ sum_none (λ _. 0) (λ r. refl) l
 
 pub new_numbered : (l : List Record) → Numbered (map freed l)
 new_numbered l e k =
     let w = none_waiting e l in
-    let o : holders e k (map freed l) ≡ 0 = sum_over freed (λ r. cond (waits e k r.tag) 1 0) (λ _. 0) (λ r. refl) l ∙ sum-none (λ _. 0) (λ r. refl) l in
+    let o : holders e k (map freed l) ≡ 0 = sum_over freed (λ r. cond (waits e k r.tag) 1 0) (λ _. 0) (λ r. refl) l ∙ sum_none (λ _. 0) (λ r. refl) l in
     grind (arith, nat_tests)
 
 pub new_order : (e : ℕ) (l : List Record) → in_order e (map freed l) ≡ []

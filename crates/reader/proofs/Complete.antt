@@ -86,11 +86,11 @@ called_read w subsystem x left some e =
 module _ (w : Window) (start : w.place ≡ 1) where
   request_read : (source class credit subsystem : ℕ) → LaidOut (content.connection_request source class credit subsystem) (1 ∷ rest w) →
       (v : Window) × (connection_request w ≡ Ok (content.connection_request source class credit subsystem, v))
-  request_read source class credit subsystem (src, xs, found, e, is-source, points, some, has) =
+  request_read source class credit subsystem (src, xs, found, e, is_source, points, some, has) =
       let front = behind 1 (rest w) (src ++ class ∷ 2 ∷ xs) e in
-      let h = header_takes 6 w _ start front (lit≤ tt) (reference_long source src (class ∷ 2 ∷ xs) 3 is-source (one_more 2 (one_more 1 (points_long true _ found xs points)))) in
+      let h = header_takes 6 w _ start front (lit≤ tt) (reference_long source src (class ∷ 2 ∷ xs) 3 is_source (one_more 2 (one_more 1 (points_long true _ found xs points)))) in
       let range = credit_class class credit found has in
-      let s = reference_takes w source src (class ∷ 2 ∷ xs) is-source front in
+      let s = reference_takes w source src (class ∷ 2 ∷ xs) is_source front in
       let c = field_takes s.0 2 3 class (2 ∷ xs) range.0 range.1 s.2 in
       let opt = optional_from true (2 ∷ 66 ∷ subsystem ∷ []) found xs points in
       let a = called_read c.0 subsystem opt.0 opt.1 some (c.2 ∙ ap (λ ys. 2 ∷ ys) opt.2) in
@@ -99,12 +99,12 @@ module _ (w : Window) (start : w.place ≡ 1) where
 
   confirm_read : (destination source class credit : ℕ) → LaidOut (content.connection_confirm destination source class credit) (2 ∷ rest w) →
       (v : Window) × (connection_confirm w ≡ Ok (content.connection_confirm destination source class credit, v))
-  confirm_read destination source class credit (dst, src, xs, found, e, is-destination, is-source, points, has) =
+  confirm_read destination source class credit (dst, src, xs, found, e, is_destination, is_source, points, has) =
       let front = behind 2 (rest w) (dst ++ (src ++ class ∷ xs)) e in
-      let h = header_takes 8 w _ start front (lit≤ tt) (reference_long destination dst _ 5 is-destination (reference_long source src _ 2 is-source (one_more 1 (points_long true _ found xs points)))) in
+      let h = header_takes 8 w _ start front (lit≤ tt) (reference_long destination dst _ 5 is_destination (reference_long source src _ 2 is_source (one_more 1 (points_long true _ found xs points)))) in
       let range = credit_class class credit found has in
-      let d = reference_takes w destination dst _ is-destination front in
-      let s = reference_takes d.0 source src _ is-source d.2 in
+      let d = reference_takes w destination dst _ is_destination front in
+      let s = reference_takes d.0 source src _ is_source d.2 in
       let c = field_takes s.0 2 3 class xs range.0 range.1 s.2 in
       let opt = optional_from true [] found xs points in
       let o = pointer_takes c.0 opt.0 opt.1 (c.2 ∙ opt.2) in
@@ -113,10 +113,10 @@ module _ (w : Window) (start : w.place ≡ 1) where
 
   refused_read : (destination cause : ℕ) → LaidOut (content.connection_refused destination cause) (3 ∷ rest w) →
       (v : Window) × (connection_refused w ≡ Ok (content.connection_refused destination cause, v))
-  refused_read destination cause (dst, xs, found, e, is-destination, listed, points) =
+  refused_read destination cause (dst, xs, found, e, is_destination, listed, points) =
       let front = behind 3 (rest w) (dst ++ cause ∷ xs) e in
-      let h = header_takes 5 w _ start front (lit≤ tt) (reference_long destination dst _ 2 is-destination (one_more 1 (points_long false _ found xs points))) in
-      let d = reference_takes w destination dst _ is-destination front in
+      let h = header_takes 5 w _ start front (lit≤ tt) (reference_long destination dst _ 2 is_destination (one_more 1 (points_long false _ found xs points))) in
+      let d = reference_takes w destination dst _ is_destination front in
       let c = field_takes d.0 0 15 cause xs zero-le listed d.2 in
       let opt = optional_from false [] found xs points in
       let o = pointer_takes c.0 opt.0 opt.1 (c.2 ∙ opt.2) in
@@ -125,11 +125,11 @@ module _ (w : Window) (start : w.place ≡ 1) where
 
   released_read : (destination source cause : ℕ) → LaidOut (content.released destination source cause) (4 ∷ rest w) →
       (v : Window) × (released w ≡ Ok (content.released destination source cause, v))
-  released_read destination source cause (dst, src, xs, found, e, is-destination, is-source, listed, points) =
+  released_read destination source cause (dst, src, xs, found, e, is_destination, is_source, listed, points) =
       let front = behind 4 (rest w) (dst ++ (src ++ cause ∷ xs)) e in
-      let h = header_takes 8 w _ start front (lit≤ tt) (reference_long destination dst _ 5 is-destination (reference_long source src _ 2 is-source (one_more 1 (points_long false _ found xs points)))) in
-      let d = reference_takes w destination dst _ is-destination front in
-      let s = reference_takes d.0 source src _ is-source d.2 in
+      let h = header_takes 8 w _ start front (lit≤ tt) (reference_long destination dst _ 5 is_destination (reference_long source src _ 2 is_source (one_more 1 (points_long false _ found xs points)))) in
+      let d = reference_takes w destination dst _ is_destination front in
+      let s = reference_takes d.0 source src _ is_source d.2 in
       let c = field_takes s.0 0 15 cause xs zero-le listed s.2 in
       let opt = optional_from false [] found xs points in
       let o = pointer_takes c.0 opt.0 opt.1 (c.2 ∙ opt.2) in
@@ -140,41 +140,41 @@ module _ (w : Window) (start : w.place ≡ 1) where
   references_read : (type destination source : ℕ) (dst src : List ℕ) → type ∷ rest w ≡ type ∷ dst ++ src → IsReference destination dst → IsReference source src →
       (v : Window) × (two_references w ≡ Ok ((destination, source), v))
   unfolding two_references
-  references_read type destination source dst src e is-destination is-source =
+  references_read type destination source dst src e is_destination is_source =
       let front = behind type (rest w) (dst ++ src) e in
-      let longer = subst (λ (xs : List ℕ). 3 ≤ length xs) (append-nil src) (reference_long source src [] 0 is-source (lit≤ tt)) in
-      let h = header_takes 6 w _ start front (lit≤ tt) (reference_long destination dst src 3 is-destination longer) in
-      let d = reference_takes w destination dst src is-destination front in
-      let s = reference_takes d.0 source src [] is-source (d.2 ∙ sym (append-nil src)) in
+      let longer = subst (λ (xs : List ℕ). 3 ≤ length xs) (append-nil src) (reference_long source src [] 0 is_source (lit≤ tt)) in
+      let h = header_takes 6 w _ start front (lit≤ tt) (reference_long destination dst src 3 is_destination longer) in
+      let d = reference_takes w destination dst src is_destination front in
+      let s = reference_takes d.0 source src [] is_source (d.2 ∙ sym (append-nil src)) in
       let n = ends_takes VariablePart s.0 s.2 in
       (s.0, rw (h, d.1, s.1, n) refl)
 
   reset_read : (destination source cause : ℕ) → LaidOut (content.reset_request destination source cause) (13 ∷ rest w) →
       (v : Window) × (reset_request w ≡ Ok (content.reset_request destination source cause, v))
-  reset_read destination source cause (dst, src, e, is-destination, is-source, listed) =
+  reset_read destination source cause (dst, src, e, is_destination, is_source, listed) =
       let front = behind 13 (rest w) (dst ++ (src ++ cause ∷ [])) e in
-      let h = header_takes 7 w _ start front (lit≤ tt) (reference_long destination dst _ 4 is-destination (reference_long source src _ 1 is-source (lit≤ tt))) in
-      let d = reference_takes w destination dst _ is-destination front in
-      let s = reference_takes d.0 source src _ is-source d.2 in
+      let h = header_takes 7 w _ start front (lit≤ tt) (reference_long destination dst _ 4 is_destination (reference_long source src _ 1 is_source (lit≤ tt))) in
+      let d = reference_takes w destination dst _ is_destination front in
+      let s = reference_takes d.0 source src _ is_source d.2 in
       let c = field_takes s.0 0 15 cause [] zero-le listed s.2 in
       let n = ends_takes VariablePart c.0 c.2 in
       (c.0, rw (h, d.1, s.1, c.1, n) refl)
 
   error_read : (destination cause : ℕ) → LaidOut (content.error destination cause) (15 ∷ rest w) → (v : Window) × (error w ≡ Ok (content.error destination cause, v))
-  error_read destination cause (dst, e, is-destination, listed) =
+  error_read destination cause (dst, e, is_destination, listed) =
       let front = behind 15 (rest w) (dst ++ cause ∷ []) e in
-      let h = header_takes 4 w _ start front (lit≤ tt) (reference_long destination dst _ 1 is-destination (lit≤ tt)) in
-      let d = reference_takes w destination dst _ is-destination front in
+      let h = header_takes 4 w _ start front (lit≤ tt) (reference_long destination dst _ 1 is_destination (lit≤ tt)) in
+      let d = reference_takes w destination dst _ is_destination front in
       let c = field_takes d.0 0 4 cause [] zero-le listed d.2 in
       let n = ends_takes VariablePart c.0 c.2 in
       (c.0, rw (h, d.1, c.1, n) refl)
 
   acknowledgement_read : (destination receive credit : ℕ) → LaidOut (content.data_acknowledgement destination receive credit) (8 ∷ rest w) →
       (v : Window) × (data_acknowledgement w ≡ Ok (content.data_acknowledgement destination receive credit, v))
-  acknowledgement_read destination receive credit (dst, e, is-destination, low, high) =
+  acknowledgement_read destination receive credit (dst, e, is_destination, low, high) =
       let front = behind 8 (rest w) (dst ++ (receive * 2) ∷ credit ∷ []) e in
-      let h = header_takes 5 w _ start front (lit≤ tt) (reference_long destination dst _ 2 is-destination (lit≤ tt)) in
-      let d = reference_takes w destination dst _ is-destination front in
+      let h = header_takes 5 w _ start front (lit≤ tt) (reference_long destination dst _ 2 is_destination (lit≤ tt)) in
+      let d = reference_takes w destination dst _ is_destination front in
       let r = sequence_takes d.0 receive _ d.2 in
       let c = field_takes r.0 1 127 credit [] low high r.2 in
       let n = ends_takes VariablePart c.0 c.2 in
@@ -182,20 +182,20 @@ module _ (w : Window) (start : w.place ≡ 1) where
 
   form_1_read : (destination : ℕ) (more : Bool) (octets : List ℕ) → LaidOut (content.data_form_1 destination more octets) (6 ∷ rest w) →
       (v : Window) × (data_form_1 w ≡ Ok (content.data_form_1 destination more octets, v))
-  form_1_read destination more octets (dst, e, is-destination, some) =
+  form_1_read destination more octets (dst, e, is_destination, some) =
       let front = behind 6 (rest w) (dst ++ more_octet more ∷ 1 ∷ length octets ∷ octets) e in
-      let h = header_takes 5 w _ start front (lit≤ tt) (reference_long destination dst _ 2 is-destination (one_more 1 (one_more 0 zero-le))) in
-      let d = reference_takes w destination dst _ is-destination front in
+      let h = header_takes 5 w _ start front (lit≤ tt) (reference_long destination dst _ 2 is_destination (one_more 1 (one_more 0 zero-le))) in
+      let d = reference_takes w destination dst _ is_destination front in
       let m = field_takes d.0 0 1 (more_octet more) _ zero-le (flag_low more) d.2 in
       let x = segment_read m.0 octets some m.2 in
       (x.0, rw (h, d.1, m.1, x.1, flag_read more) refl)
 
   form_2_read : (destination send receive : ℕ) (more : Bool) (octets : List ℕ) → LaidOut (content.data_form_2 destination send receive more octets) (7 ∷ rest w) →
       (v : Window) × (data_form_2 w ≡ Ok (content.data_form_2 destination send receive more octets, v))
-  form_2_read destination send receive more octets (dst, e, is-destination, some) =
+  form_2_read destination send receive more octets (dst, e, is_destination, some) =
       let front = behind 7 (rest w) (dst ++ (send * 2) ∷ (receive * 2 + more_octet more) ∷ 1 ∷ length octets ∷ octets) e in
-      let h = header_takes 6 w _ start front (lit≤ tt) (reference_long destination dst _ 3 is-destination (one_more 2 (one_more 1 (one_more 0 zero-le)))) in
-      let d = reference_takes w destination dst _ is-destination front in
+      let h = header_takes 6 w _ start front (lit≤ tt) (reference_long destination dst _ 3 is_destination (one_more 2 (one_more 1 (one_more 0 zero-le)))) in
+      let d = reference_takes w destination dst _ is_destination front in
       let s = sequence_takes d.0 send _ d.2 in
       let r = octet_takes CutShort s.0 (receive * 2 + more_octet more) _ s.2 in
       let x = segment_read r.0 octets some r.2 in
@@ -215,13 +215,13 @@ module _ (w : Window) (start : w.place ≡ 1) where
   message_read (content.connection_refused destination cause) type l = one_type _ type 3 _ l.3 (refused_read destination cause) l
   message_read (content.released destination source cause) type l = one_type _ type 4 _ l.4 (released_read destination source cause) l
   message_read (content.release_complete destination source) type l =
-      one_type _ type 5 _ l.2 (λ (d, s, e, is-d, is-s). let g = references_read 5 destination source d s e is-d is-s in (g.0, rw g.1 refl)) l
+      one_type _ type 5 _ l.2 (λ (d, s, e, is_d, is_s). let g = references_read 5 destination source d s e is_d is_s in (g.0, rw g.1 refl)) l
   message_read (content.data_form_1 destination more segment) type l = one_type _ type 6 _ l.1 (form_1_read destination more segment) l
   message_read (content.data_form_2 destination send receive more segment) type l = one_type _ type 7 _ l.1 (form_2_read destination send receive more segment) l
   message_read (content.data_acknowledgement destination receive credit) type l = one_type _ type 8 _ l.1 (acknowledgement_read destination receive credit) l
   message_read (content.reset_request destination source cause) type l = one_type _ type 13 _ l.2 (reset_read destination source cause) l
   message_read (content.reset_confirm destination source) type l =
-      one_type _ type 14 _ l.2 (λ (d, s, e, is-d, is-s). let g = references_read 14 destination source d s e is-d is-s in (g.0, rw g.1 refl)) l
+      one_type _ type 14 _ l.2 (λ (d, s, e, is_d, is_s). let g = references_read 14 destination source d s e is_d is_s in (g.0, rw g.1 refl)) l
   message_read (content.error destination cause) type l = one_type _ type 15 _ l.1 (error_read destination cause) l
 
 bare : {x : ℕ} {xs : List ℕ} → [] ≡ x ∷ xs → ⊥

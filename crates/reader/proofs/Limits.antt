@@ -44,9 +44,9 @@ segment_limit : (segment : List ℕ) → 1 ≤ length segment → length segment
 segment_limit segment low high = and_from _ _ (le-leb 1 (length segment) low) (le-leb (length segment) 255 (omega arith))
 
 two_limits : (type destination source : ℕ) (d s l : List ℕ) → l ≡ type ∷ d ++ s → IsReference destination d → IsReference source s → Octets l → (reference_fits destination && reference_fits source) ≡ true
-two_limits type destination source d s l e is-d is-s o =
-    let r = reference_limit destination d s is-d (behind type _ l e o).1 in
-    let q = reference_limit source s [] is-s (subst Octets (sym (append-nil s)) r.1) in
+two_limits type destination source d s l e is_d is_s o =
+    let r = reference_limit destination d s is_d (behind type _ l e o).1 in
+    let q = reference_limit source s [] is_s (subst Octets (sym (append-nil s)) r.1) in
     and_from _ _ r.0 q.0
 
 pub limits : (c : Content) (l : List ℕ) → Octets l → LaidOut c l → within c ≡ true
@@ -54,17 +54,17 @@ limits (content.connection_request source class credit subsystem) l o (s, xs, fo
     let r = reference_limit source s (class ∷ 2 ∷ xs) is (behind 1 _ l e o).1 in
     let b = behind 2 xs _ refl (behind class (2 ∷ xs) _ refl r.1).1 in
     and_from _ _ r.0 (and_from _ _ (credit_limit class credit found has) (and_from _ _ (le-leb 1 subsystem some) (le-leb subsystem 255 (subsystem_limit true subsystem found xs points b.1))))
-limits (content.connection_confirm destination source class credit) l o (d, s, xs, found, e, is-d, is-s, points, has) =
-    let r = reference_limit destination d _ is-d (behind 2 _ l e o).1 in
-    let q = reference_limit source s _ is-s r.1 in
+limits (content.connection_confirm destination source class credit) l o (d, s, xs, found, e, is_d, is_s, points, has) =
+    let r = reference_limit destination d _ is_d (behind 2 _ l e o).1 in
+    let q = reference_limit source s _ is_s r.1 in
     and_from _ _ r.0 (and_from _ _ q.0 (credit_limit class credit found has))
 limits (content.connection_refused destination cause) l o (d, xs, found, e, is, listed, points) =
     and_from _ _ (reference_limit destination d _ is (behind 3 _ l e o).1).0 (le-leb cause 15 listed)
-limits (content.released destination source cause) l o (d, s, xs, found, e, is-d, is-s, listed, points) =
-    let r = reference_limit destination d _ is-d (behind 4 _ l e o).1 in
-    let q = reference_limit source s _ is-s r.1 in
+limits (content.released destination source cause) l o (d, s, xs, found, e, is_d, is_s, listed, points) =
+    let r = reference_limit destination d _ is_d (behind 4 _ l e o).1 in
+    let q = reference_limit source s _ is_s r.1 in
     and_from _ _ r.0 (and_from _ _ q.0 (le-leb cause 15 listed))
-limits (content.release_complete destination source) l o (d, s, e, is-d, is-s) = two_limits 5 destination source d s l e is-d is-s o
+limits (content.release_complete destination source) l o (d, s, e, is_d, is_s) = two_limits 5 destination source d s l e is_d is_s o
 limits (content.data_form_1 destination more segment) l o (d, e, is, some) =
     let r = reference_limit destination d _ is (behind 6 _ l e o).1 in
     and_from _ _ r.0 (segment_limit segment some (r.1 2))
@@ -74,11 +74,11 @@ limits (content.data_form_2 destination send receive more segment) l o (d, e, is
 limits (content.data_acknowledgement destination receive credit) l o (d, e, is, low, high) =
     let r = reference_limit destination d _ is (behind 8 _ l e o).1 in
     and_from _ _ r.0 (and_from _ _ (twice_limit receive (r.1 0)) (and_from _ _ (le-leb 1 credit low) (le-leb credit 127 high)))
-limits (content.reset_request destination source cause) l o (d, s, e, is-d, is-s, listed) =
-    let r = reference_limit destination d _ is-d (behind 13 _ l e o).1 in
-    let q = reference_limit source s _ is-s r.1 in
+limits (content.reset_request destination source cause) l o (d, s, e, is_d, is_s, listed) =
+    let r = reference_limit destination d _ is_d (behind 13 _ l e o).1 in
+    let q = reference_limit source s _ is_s r.1 in
     and_from _ _ r.0 (and_from _ _ q.0 (le-leb cause 15 listed))
-limits (content.reset_confirm destination source) l o (d, s, e, is-d, is-s) = two_limits 14 destination source d s l e is-d is-s o
+limits (content.reset_confirm destination source) l o (d, s, e, is_d, is_s) = two_limits 14 destination source d s l e is_d is_s o
 limits (content.error destination cause) l o (d, e, is, listed) =
     and_from _ _ (reference_limit destination d _ is (behind 15 _ l e o).1).0 (le-leb cause 4 listed)
 

@@ -62,11 +62,11 @@ parameters_front (suc depth) due found w p e =
       subst (λ (xs : List ℕ). IsOptional due own xs) (sym (f ∙ ap (λ xs. name ∷ xs) g)) (with_other part other free some is),
       subst (λ (k : Option ℕ). Joined k own p.0) same joined,
     )
-    own_part known part name v u other f g some (inl (is-due, nine, none, single, credit)) (own, is, joined) =
+    own_part known part name v u other f g some (inl (is_due, nine, none, single, credit)) (own, is, joined) =
         let both : (own ≡ None) × (p.0 ≡ Some (get_or part 0 0)) = subst (λ (k : Option ℕ). Joined k own p.0) credit joined in
         let whole : rest w ≡ 9 ∷ 1 ∷ get_or part 0 0 ∷ rest u = f ∙ rw (nine, g, single) (ap (λ xs. 9 ∷ 1 ∷ xs ++ rest u) (one part single)) in (
           Some (get_or part 0 0),
-          subst (λ (xs : List ℕ). IsOptional due (Some (get_or part 0 0)) xs) (sym whole) (with_credit is-due (subst (λ (k : Option ℕ). IsOptional due k (rest u)) both.0 is)),
+          subst (λ (xs : List ℕ). IsOptional due (Some (get_or part 0 0)) xs) (sym whole) (with_credit is_due (subst (λ (k : Option ℕ). IsOptional due k (rest u)) both.0 is)),
           subst (λ (k : Option ℕ). Joined k (Some (get_or part 0 0)) p.0) (sym none) both.1,
         )
 
@@ -99,13 +99,13 @@ parameters_takes due ended zero found whole w e h j = absurd (omega arith)
 parameters_takes due ended (suc depth) found whole w e h j =
     let a = octet_takes OptionalPart w 0 [] e in
     (a.0, rw (a.1, ends_takes OptionalPart a.0 a.2, joined_none found whole j) refl)
-parameters_takes due (with_credit {x = x} {rest = left} is-due is) zero found whole w e h j = absurd (omega arith)
-parameters_takes due (with_credit {x = x} {rest = left} is-due is) (suc depth) (Some y) whole w e h j = absurd (let n = j.0 in let z : ◌≡◌ {A = ℕ} 0 1 = cc in omega arith)
-parameters_takes due (with_credit {x = x} {rest = left} is-due is) (suc depth) None whole w e h j =
+parameters_takes due (with_credit {x = x} {rest = left} is_due is) zero found whole w e h j = absurd (omega arith)
+parameters_takes due (with_credit {x = x} {rest = left} is_due is) (suc depth) (Some y) whole w e h j = absurd (let n = j.0 in let z : ◌≡◌ {A = ℕ} 0 1 = cc in omega arith)
+parameters_takes due (with_credit {x = x} {rest = left} is_due is) (suc depth) None whole w e h j =
     let a = octet_takes OptionalPart w 9 (1 ∷ x ∷ left) e in
     let b = counted_takes OptionalPart a.0 w.place (x ∷ []) left (lit≤ tt) a.2 in
     let c = parameters_takes due is depth (Some x) whole b.0 b.2 (omega arith) (refl, j) in
-    (c.0, rw (a.1, b.1, is-due, ← c.1) (rw is-due refl))
+    (c.0, rw (a.1, b.1, is_due, ← c.1) (rw is_due refl))
 parameters_takes due (with_other {found = own} {name = name} part {rest = left} other free some is) zero found whole w e h j = absurd (omega arith)
 parameters_takes due (with_other {found = own} {name = name} part {rest = left} other free some is) (suc depth) found whole w e h j =
     let a = octet_takes OptionalPart w name (length part ∷ part ++ left) e in

@@ -18,8 +18,8 @@ use Rattle.ring.specs.Places.{place_below, place_apart, half_apart, place_next}
 pub length-turns : (l : List Slot) (e n h c : ℕ) → length (turns l e n h c) ≡ c
 length-turns l e n h c = length-map-range_with_len (turn l e n h) 0 c
 
-pub at-turns : (l : List Slot) (e n h c k : ℕ) → k < c → slice_index_or (turns l e n h c) k [] ≡ turn l e n h k
-at-turns l e n h c k i = get_or-map-range_with_len (turn l e n h) 0 c k k [] i (omega arith)
+pub at_turns : (l : List Slot) (e n h c k : ℕ) → k < c → slice_index_or (turns l e n h c) k [] ≡ turn l e n h k
+at_turns l e n h c k i = get_or-map-range_with_len (turn l e n h) 0 c k k [] i (omega arith)
 
 -- how many messages there are toward an end
 pub counted : (r : Ring) (e : ℕ) → e < 2 → length (toward e (ring_ways r)) ≡ slice_index r.count e
@@ -44,7 +44,7 @@ at_read l p d h = sym (get_or-map message_of l p d [] h)
 turns_kept : (l : List Slot) (p : ℕ) (x : Slot) (e n h c : ℕ) → ((k : ℕ) → k < c → place e n h k ≢ p) → turns (slice_set l p x) e n h c ≡ turns l e n h c
 turns_kept l p x e n h c f =
     is_turns (turns (slice_set l p x) e n h c) l e n h c (length-turns (slice_set l p x) e n h c)
-    (λ k i. at-turns (slice_set l p x) e n h c k i ∙ at_other l p (place e n h k) x (f k i))
+    (λ k i. at_turns (slice_set l p x) e n h c k i ∙ at_other l p (place e n h k) x (f k i))
 
 pub turns_other : (l : List Slot) (x : Slot) (d e n g h c k : ℕ) → d < 2 → e < 2 → d ≢ e → g < n → h < n → c ≤ n → k < n →
     turns (slice_set l (place e n h k) x) d n g c ≡ turns l d n g c
@@ -62,7 +62,7 @@ pub turns_take : (l : List Slot) (e n h c m : ℕ) → h < n → c ≤ n → m +
 turns_take l e n h c m a b z =
     sym (is_turns (drop 1 (turns l e n h c)) l e n (wrap n (h + 1)) m
     (length-drop 1 (turns l e n h c) ∙ omega (arith, length-turns l e n h c))
-    (λ k i. get_or-drop 1 (turns l e n h c) k [] ∙ at-turns l e n h c (1 + k) (omega arith) ∙ ap (message_at l) (sym (place_next e n h k a (omega arith)))))
+    (λ k i. get_or-drop 1 (turns l e n h c) k [] ∙ at_turns l e n h c (1 + k) (omega arith) ∙ ap (message_at l) (sym (place_next e n h k a (omega arith)))))
 
 -- the turn that stands at the turn j once those from i to k have moved one turn ahead
 abbrev pub shifted : ℕ → ℕ → ℕ → ℕ
@@ -77,9 +77,9 @@ turns_lose l l' e n h i c m b z f =
     let r : Messages = take i q ++ drop (suc i) q in
     let back : r ≡ turns l' e n h m = is_turns r l' e n h m (omega (arith, length-remove q i bq, lq))
     (λ k a. ⊎_elim
-    (λ (y : k < i). get_or-remove_below q i [] k y bq ∙ at-turns l e n h c k (omega arith)
+    (λ (y : k < i). get_or-remove_below q i [] k y bq ∙ at_turns l e n h c k (omega arith)
     ∙ ap (turn l e n h) (let t : k ≡ shifted i m k = grind (arith, nat_tests) in t) ∙ sym (f k (omega arith)))
-    (λ (y : i ≤ k). get_or-remove_above q i [] k y bq ∙ at-turns l e n h c (k + 1) (omega arith)
+    (λ (y : i ≤ k). get_or-remove_above q i [] k y bq ∙ at_turns l e n h c (k + 1) (omega arith)
     ∙ ap (turn l e n h) (let t : k + 1 ≡ shifted i m k = grind (arith, nat_tests) in t) ∙ sym (f k (omega arith)))
     (cases_lt k i)) in
     sym back ∙ ap (λ v. take i q ++ drop v q) (sym (add-one i))
@@ -100,17 +100,17 @@ shift_more l₀ l x e n h i k c p a b s d z read f j g =
     ∙ ap (turn l₀ e n h) (let t : shifted i k j ≡ shifted i (k + 1) j = grind (arith, nat_tests) in t))
     (cases_eq j k)
 
-sized-at : (l : List Slot) (p : ℕ) → p < length l → (0 < length (message_at l p)) × (length (message_at l p) ≤ 268)
-sized-at [] p h = absurd (omega arith)
-sized-at (s ∷ l) zero h = sized s
-sized-at (s ∷ l) (suc p) h = sized-at l p (omega arith)
+sized_at : (l : List Slot) (p : ℕ) → p < length l → (0 < length (message_at l p)) × (length (message_at l p) ≤ 268)
+sized_at [] p h = absurd (omega arith)
+sized_at (s ∷ l) zero h = sized s
+sized_at (s ∷ l) (suc p) h = sized_at l p (omega arith)
 
 pub sized-turns : (l : List Slot) (e n h c k : ℕ) → e < 2 → h < n → c ≤ n → n + n ≤ length l → k < length (turns l e n h c) →
     (0 < length (slice_index_or (turns l e n h c) k [])) × (length (slice_index_or (turns l e n h c) k []) ≤ 268)
 sized-turns l e n h c k p a b i j =
     let z : k < c = omega (arith, length-turns l e n h c) in
-    subst (λ m. (0 < length m) × (length m ≤ 268)) (sym (at-turns l e n h c k z))
-    (sized-at l (place e n h k) (omega (arith, place_below e n h k p a (omega arith))))
+    subst (λ m. (0 < length m) × (length m ≤ 268)) (sym (at_turns l e n h c k z))
+    (sized_at l (place e n h k) (omega (arith, place_below e n h k p a (omega arith))))
 
 -- what a ring means is sound
 pub ring_sound : (r : Ring) → Sound (ring_ways r)

@@ -6,7 +6,7 @@ use Rattle.std.proofs.lemmas.List.{drop_more, take_at}
 use Rattle.message.specs.declared.fault.Fault.{Fault}
 use Rattle.route.specs.Ways.{Ways, Messages, toward, with_toward, message_sized, oldest, fronted, without}
 use Rattle.route.specs.Ways.{put_answer, put_after, take_answer, take_buffer, take_after, lose_answer, lose_after}
-use Rattle.route.specs.Runs.{Call, put, take as take-call, count, room, lose, after, keeps, entered, taken, after_all, all_entered, all_taken, all_keep}
+use Rattle.route.specs.Runs.{Call, put, take as take_call, count, room, lose, after, keeps, entered, taken, after_all, all_entered, all_taken, all_keep}
 use Rattle.route.specs.Laws.{Laws, InOrder, ComesOutInOrder, NothingLostUnasked, TakenIsOldest, CountAndRoom, OtherEndStays, RefusalAltersNothing}
 use Rattle.route.proofs.Calls.{toward_same, toward_other}
 use Rattle.route.proofs.Orders.{whole_of, through, behind, ahead_of, one_lost}
@@ -74,7 +74,7 @@ put_keeps e d m w h =
     (λ z. ap (toward e) z.1 ∙ sym (append-nil (toward e w)) ∙ ap (λ l. toward e w ++ l) (sym (there d e (is_ok (put_answer d m w)) (m ∷ []) [] (inr z.0))))
     (put_does d m w)
 
-take_keeps : (e d : ℕ) (b : List ℕ) (w : Ways) → e < 2 → taken e (take-call d b) w ++ toward e (take_after d b w) ≡ toward e w
+take_keeps : (e d : ℕ) (b : List ℕ) (w : Ways) → e < 2 → taken e (take_call d b) w ++ toward e (take_after d b w) ≡ toward e w
 take_keeps e d b w h =
     let t : Messages = toward e (take_after d b w) in
     let l : Messages = oldest (toward e w) ∷ [] in
@@ -102,7 +102,7 @@ lose_loses e d i w h =
 -- one call that is not LOSE
 kept : (e : ℕ) (c : Call) (w : Ways) → e < 2 → keeps c ≡ true → taken e c w ++ toward e (after c w) ≡ toward e w ++ entered e c w
 kept e (put d m) w h k = put_keeps e d m w h
-kept e (take-call d b) w h k = take_keeps e d b w h ∙ sym (append-nil (toward e w))
+kept e (take_call d b) w h k = take_keeps e d b w h ∙ sym (append-nil (toward e w))
 kept e (count d) w h k = sym (append-nil (toward e w))
 kept e (room d) w h k = sym (append-nil (toward e w))
 kept e (lose d i) w h k = absurd (false≢true k)
@@ -110,7 +110,7 @@ kept e (lose d i) w h k = absurd (false≢true k)
 -- any call
 ordered : (e : ℕ) (c : Call) (w : Ways) → e < 2 → InOrder (taken e c w ++ toward e (after c w)) (toward e w ++ entered e c w)
 ordered e (put d m) w h = whole_of _ _ (kept e (put d m) w h refl)
-ordered e (take-call d b) w h = whole_of _ _ (kept e (take-call d b) w h refl)
+ordered e (take_call d b) w h = whole_of _ _ (kept e (take_call d b) w h refl)
 ordered e (count d) w h = whole_of _ _ (kept e (count d) w h refl)
 ordered e (room d) w h = whole_of _ _ (kept e (room d) w h refl)
 ordered e (lose d i) w h = subst (λ l. InOrder (toward e (lose_after d i w)) l) (sym (append-nil (toward e w))) (lose_loses e d i w h)
@@ -147,14 +147,14 @@ count_and_room e m n w s k p q = let i = s.within e in grind (arith, nat_tests)
 
 other_end_stays : OtherEndStays
 other_end_stays e (put d m) w h n = ⊎_elim (λ z. ap (toward e) z.2 ∙ toward_other e d _ w h z.1 n) (λ z. ap (toward e) z.1) (put_does d m w)
-other_end_stays e (take-call d b) w h n = ⊎_elim (λ z. ap (toward e) z.2 ∙ toward_other e d _ w h z.1 n) (λ z. ap (toward e) z.1) (take_does d b w)
+other_end_stays e (take_call d b) w h n = ⊎_elim (λ z. ap (toward e) z.2 ∙ toward_other e d _ w h z.1 n) (λ z. ap (toward e) z.1) (take_does d b w)
 other_end_stays e (count d) w h n = refl
 other_end_stays e (room d) w h n = refl
 other_end_stays e (lose d i) w h n = ⊎_elim (λ z. ap (toward e) z.2 ∙ toward_other e d _ w h z.1 n) (λ z. ap (toward e) z.1) (lose_does d i w)
 
 refusal_alters_nothing : RefusalAltersNothing
 refusal_alters_nothing (put d m) w k = ⊎_elim (λ z. absurd (true≢false (sym z.0 ∙ k))) (λ z. z.1) (put_does d m w)
-refusal_alters_nothing (take-call d b) w k = ⊎_elim (λ z. absurd (true≢false (sym z.0 ∙ k))) (λ z. z.1) (take_does d b w)
+refusal_alters_nothing (take_call d b) w k = ⊎_elim (λ z. absurd (true≢false (sym z.0 ∙ k))) (λ z. z.1) (take_does d b w)
 refusal_alters_nothing (count d) w k = refl
 refusal_alters_nothing (room d) w k = refl
 refusal_alters_nothing (lose d i) w k = ⊎_elim (λ z. absurd (true≢false (sym z.0 ∙ k))) (λ z. z.1) (lose_does d i w)

@@ -94,19 +94,19 @@ room_moved e m n k r u u' a b a' b' s p h q i size taken filled left answer afte
     let t = take_fits e u a x.0 size some in
     let moving : List ℕ = oldest (toward e a) in let rest : Messages = drop 1 (toward e a) in
     let split : toward e a ≡ moving ∷ rest = drop_more (toward e a) 0 [] some in
-    let k-is : k - 0 ≡ length moving = let z : ◌≡◌ {A = Result ℕ Fault} (Ok k) (Ok (length moving)) = taken ∙ sym t.0 in sub-zero k ∙ cc in
-    let sent_is : take (k - 0) u' ≡ moving = ap (λ v. take (k - 0) v) (filled ∙ sym t.1) ∙ take_at moving (drop (length moving) u) (k - 0) (sym k-is) in
+    let k_is : k - 0 ≡ length moving = let z : ◌≡◌ {A = Result ℕ Fault} (Ok k) (Ok (length moving)) = taken ∙ sym t.0 in sub-zero k ∙ cc in
+    let sent_is : take (k - 0) u' ≡ moving = ap (λ v. take (k - 0) v) (filled ∙ sym t.1) ∙ take_at moving (drop (length moving) u) (k - 0) (sym k_is) in
     let low = s.low e 0 some in let high = s.high e 0 some in
     let put = put_fits e moving b x.0 (grind (arith, nat_tests)) (omega arith) in
-    let a-is : a' ≡ with_toward e rest a = left ∙ sym t.2 in
-    let b-is : b' ≡ with_toward e (toward e b ++ (moving ∷ [])) b = after ∙ ap (λ v. put_after e v b) sent_is ∙ sym put.1 in
+    let a_is : a' ≡ with_toward e rest a = left ∙ sym t.2 in
+    let b_is : b' ≡ with_toward e (toward e b ++ (moving ∷ [])) b = after ∙ ap (λ v. put_after e v b) sent_is ∙ sym put.1 in
     let l = length-joined e a b in
     record {
       answer = answer ∙ ap (λ v. put_answer e v b) sent_is ∙ sym put.0 ∙ grind (arith, nat_tests);
-      same = ap (λ w. joined w b') a-is ∙ ap (λ w. joined (with_toward e rest a) w) b-is ∙ with_both e rest (toward e b ++ (moving ∷ [])) a b
+      same = ap (λ w. joined w b') a_is ∙ ap (λ w. joined (with_toward e rest a) w) b_is ∙ with_both e rest (toward e b ++ (moving ∷ [])) a b
           ∙ ap (λ v. with_toward e v (joined a b)) (append_assoc (toward e b) (moving ∷ []) rest ∙ ap (λ v. toward e b ++ v) (sym split) ∙ sym (toward-joined e a b))
           ∙ with_same e (joined a b);
-      room = λ _. omega (arith, ap (λ w. w.capacity) a-is, ap length (ap (λ w. toward e w) a-is ∙ toward_same e rest a), ap length split, s.within e);
+      room = λ _. omega (arith, ap (λ w. w.capacity) a_is, ap length (ap (λ w. toward e w) a_is ∙ toward_same e rest a), ap length split, s.within e);
     }
 
 pub put_first : (e : ℕ) (m : List ℕ) (r : Result Unit Fault) (a b a' b' a'' : Ways) → ◌≡◌ {A = Result Unit Fault} (Ok tt) (cond (message_sized m) (Ok tt) (refused MessageLength)) → RoomMade e (Ok tt) a b a' b' →
@@ -202,10 +202,10 @@ lose_first e i n r r' ok a b a' b' high count answer after tested h answer' afte
     let q : is_ok (lose_answer e i b) ≡ false = ap is_ok (sym answer) ∙ sym tested ∙ h in
     let f : (e < 2) × (length (toward e b) ≤ i) = grind (arith, nat_tests) in
     let place : length (toward e b) + (i - n) ≡ i = omega (arith, (count_ok e n b count).1, f.1) in
-    let b-is : b' ≡ b = after ∙ sym (lose_none e i b f.0 f.1).1 in
+    let b_is : b' ≡ b = after ∙ sym (lose_none e i b f.0 f.1).1 in
     let l = length-joined e a b in (
       answer' ∙ grind (arith, nat_tests),
-      ap (λ w. joined a' w) b-is ∙ ap (λ w. joined w b) (after' ∙ lose_after_is e (i - n) a f.0) ∙ with_first e (without (i - n) (toward e a)) a b
+      ap (λ w. joined a' w) b_is ∙ ap (λ w. joined w b) (after' ∙ lose_after_is e (i - n) a f.0) ∙ with_first e (without (i - n) (toward e a)) a b
           ∙ ap (λ l. with_toward e l (joined a b)) (without_back i (i - n) (toward e b) (toward e a) place ∙ ap (λ l. without i l) (sym (toward-joined e a b)))
           ∙ sym (lose_after_is e i (joined a b) f.0),
     )

@@ -23,10 +23,10 @@ loop-k-preserved c =
     let space : n + n ≤ length l = omega (arith, r.halves, inv.3, s.slots.ok.0) in
     let more : k + 1 < get_or r.count e 0 = omega (arith, c.loop-k-test.true) in
     let most : get_or r.count e 0 ≤ n = r.within e two in
-    let turns-of : (j : ℕ) → place e s.capacity (get_or s.oldest e 0) j ≡ place e n h j =
+    let turns_of : (j : ℕ) → place e s.capacity (get_or s.oldest e 0) j ≡ place e n h j =
     λ j. ap (λ v. place e v (get_or s.oldest e 0) j) inv.0 ∙ ap (λ v. place e n (get_or v e 0) j) inv.1 in
-    let to : c.place-to.result ≡ place e n h k = c.place-to.ensures.value ∙ turns-of k in
-    let from : c.place-from.result ≡ place e n h (k + 1) = c.place-from.ensures.value ∙ turns-of (k + 1) in
+    let to : c.place-to.result ≡ place e n h k = c.place-to.ensures.value ∙ turns_of k in
+    let from : c.place-from.result ≡ place e n h (k + 1) = c.place-from.ensures.value ∙ turns_of (k + 1) in
     let below : c.place-from.result < length l = omega (arith, from, place_below e n h (k + 1) two (r.inside e two) (omega arith)) in
     let read : message_of x ≡ turn l e n h (k + 1) =
     ap message_of c.index-slot.ensures ∙ at_read l c.place-from.result x below ∙ ap (message_at l) from in (
@@ -49,14 +49,14 @@ returns c =
     let l = s.slots.items in
     let m = get_or r.count e 0 - 1 in
     let inv = c.loop-k.invariant in
-    let queue-of : ℕ → List ℕ → List ℕ → ℕ → Messages = λ n o k d. turns l d n (get_or o d 0) (get_or (set k e m) d 0) in
-    let same : (d : ℕ) → queue-of s.capacity s.oldest s.count d ≡ queue-of n r.oldest r.count d =
-    λ d. ap (λ v. queue-of v s.oldest s.count d) inv.0 ∙ ap (λ v. queue-of n v s.count d) inv.1 ∙ ap (λ v. queue-of n r.oldest v d) inv.2 in
+    let queue_of : ℕ → List ℕ → List ℕ → ℕ → Messages = λ n o k d. turns l d n (get_or o d 0) (get_or (set k e m) d 0) in
+    let same : (d : ℕ) → queue_of s.capacity s.oldest s.count d ≡ queue_of n r.oldest r.count d =
+    λ d. ap (λ v. queue_of v s.oldest s.count d) inv.0 ∙ ap (λ v. queue_of n v s.count d) inv.1 ∙ ap (λ v. queue_of n r.oldest v d) inv.2 in
     let there : e < length r.count = omega arith in
-    let at-end : c.loop-k.k ≡ m = omega (arith, c.loop-k-test.false, c.loop-k.auto.k-end, c.requires.1) in
-    ap (λ v. ways_of (queue-of s.capacity s.oldest s.count) v) inv.0
-    ∙ changed_by e (without c.args.turn) (queue r) (queue-of s.capacity s.oldest s.count) n c.requires.0
+    let at_end : c.loop-k.k ≡ m = omega (arith, c.loop-k-test.false, c.loop-k.auto.k-end, c.requires.1) in
+    ap (λ v. ways_of (queue_of s.capacity s.oldest s.count) v) inv.0
+    ∙ changed_by e (without c.args.turn) (queue r) (queue_of s.capacity s.oldest s.count) n c.requires.0
     (same e ∙ ap (λ v. turns l e n (get_or r.oldest e 0) v) (get_or-set_same r.count e m 0 there)
     ∙ turns_lose r.slots.items l e n (get_or r.oldest e 0) c.args.turn (get_or r.count e 0) m c.requires.1 (omega (arith, c.requires.1))
-    (λ j g. inv.4 j g ∙ ap (λ v. turn r.slots.items e n (get_or r.oldest e 0) (shifted c.args.turn v j)) at-end))
+    (λ j g. inv.4 j g ∙ ap (λ v. turn r.slots.items e n (get_or r.oldest e 0) (shifted c.args.turn v j)) at_end))
     (λ d b z. same d ∙ ap (λ v. turns l d n (get_or r.oldest d 0) v) (get_or-set_other r.count e d m 0 z) ∙ inv.5 d b z)
