@@ -1,2 +1,3 @@
 mod Runs
 mod Writing
+pub mod Shown

@@ -2,3 +2,4 @@ pub mod Digits
 pub mod Stages
 pub mod Text
 pub mod Capitals
+pub mod Faults

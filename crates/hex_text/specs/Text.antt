@@ -1,9 +1,10 @@
 -- Which octets hex text stands for. Columns count from 1.
-use Rattle.std.specs.Prelude.{◌≡◌, ℕ, ◌+◌, ◌*◌, cond, List, [], ◌∷◌, Ok, Err, vec_items, Result, Vec, ◌==◌, ◌≢◌}
+use Rattle.std.specs.Prelude.{◌≡◌, ℕ, ◌+◌, ◌*◌, ◌<◌, cond, List, [], ◌∷◌, All, Ok, Err, vec_items, Result, Vec, ◌==◌, ◌≢◌}
 use Rattle.std.specs.declared.alloc.Global.{Global}
 use Rattle.hex_text.specs.declared.text.HexFault.{HexFault}
 use Rattle.hex_text.specs.declared.text.HexFault.TheVariants.{Nothing, NoDigit, LoneDigit, BehindDash, Memory}
 use Rattle.hex_text.specs.Digits.{blank, gap, digit_at, second_at}
+use Rattle.hex_text.specs.Capitals.{capitals}
 
 -- an octet in front of the others
 abbrev pub before : ℕ → Result (List ℕ) HexFault → Result (List ℕ) HexFault
@@ -53,3 +54,7 @@ Reads (Err (NoDigit n)) said = said ≡ Err (NoDigit n)
 Reads (Err (LoneDigit n)) said = said ≡ Err (LoneDigit n)
 Reads (Err (BehindDash n)) said = said ≡ Err (BehindDash n)
 Reads (Err Memory) said = Keeps said
+
+-- what is shown for octets stands for these octets; for none nothing is shown, and a text of nothing is a fault
+abbrev pub ShownReadsBack : Type 0
+ShownReadsBack = (octet : ℕ) (octets : List ℕ) → All (λ o. o < 256) (octet ∷ octets) → octets_of (capitals (octet ∷ octets)) ≡ Ok (octet ∷ octets)

@@ -1,6 +1,7 @@
 // Octets read from hex text.
-ghost use Rattle.std.specs.Prelude.{◌≡◌};
-ghost use Rattle.hex_text.specs.Text.{octets_of, Reads};
+ghost use Rattle.std.specs.Prelude.{◌≡◌, Some};
+ghost use Rattle.hex_text.specs.Faults.{fault_text};
+ghost use Rattle.hex_text.specs.Text.{octets_of, Reads, ShownReadsBack};
 ghost use Rattle.hex_text.specs.declared.text.HexFault.TheVariants.{Memory};
 
 use crate::stage::Stage;
@@ -23,6 +24,8 @@ pub enum HexFault {
 }
 
 impl fmt::Display for HexFault {
+    ghost output = { λ fault. Some (fault_text fault) };
+
     fn fmt<W: fmt::Write>(&self, f: &mut fmt::Formatter<W>) -> fmt::Result {
         match *self {
             HexFault::Nothing => f.write_str("nothing there: no octets are written -"),
@@ -56,8 +59,10 @@ impl<T: Drop> From<AllocFailed<T>> for HexFault {
 
 // The octets that hex text stands for: two digits to an octet, of either case. Blanks and colons may stand behind an
 // octet, and blanks before the first. A dash is no octets.
+#[tactic(auto, using(crate::proofs::Shown::shown_reads_back))]
 pub fn parse(heap: Global, text: &str) -> Result<Vec<u8>, HexFault>
-    ensures { Reads result (octets_of text.now) }
+    ensures reads { Reads result (octets_of text.now) }
+    ensures shown { ShownReadsBack }
 {
     let mut octets = Vec::new(heap);
     let mut stage = Stage::Start;

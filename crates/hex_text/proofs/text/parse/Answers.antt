@@ -10,14 +10,14 @@ use Rattle.hex_text.proofs.text.parse.Goals.{in-Octet+in_ok-push, in_default}
 pub loop-place-init : goal.loop-place-init
 loop-place-init c = starts c.args.text.now _ c.new-octets.ensures.items
 
-pub returns-in_err-stage : goal.returns-in_err-stage
-returns-in_err-stage c =
+pub returns-in_err-stage-clause-reads : goal.returns-in_err-stage-clause-reads
+returns-in_err-stage-clause-reads c =
     let p = err_from_is_err_and c.from_residual.result c.from_residual.ensures.1 in
     let read = ap (λ t. next_stage c.loop-place.stage (get_or t c.loop-place.place 0) (c.loop-place.place + 1)) c.as_bytes-character-items.ensures.value in
     rw (p.1, p.2) (stops c.loop-place.invariant c.in_err-stage.field-0.0 (omega arith) (c.in_err-stage.ensures.value ∙ read))
 
-pub returns-in_err-push : goal.returns-in_err-push
-returns-in_err-push c =
+pub returns-in_err-push-clause-reads : goal.returns-in_err-push-clause-reads
+returns-in_err-push-clause-reads c =
     let p = err_from_is_err_and c.from_residual-in_err-push.result c.from_residual-in_err-push.ensures.1 in
     let read = ap (λ t. next_stage c.loop-place.stage (get_or t c.loop-place.place 0) (c.loop-place.place + 1)) c.as_bytes-character-items.ensures.value in
     rw (p.1, p.2) (keeps c.loop-place.invariant c.in-Octet.octet (omega arith) (ap Ok (sym c.in-Octet.is) ∙ (c.in_ok-stage.ensures.value ∙ read)))
@@ -34,10 +34,10 @@ loop-place-preserved c =
           subst (Sofar _ _ _) (sym w.stage-is) (next (vec_items c.match-stage.octets) (ap vec_items w.octets-is ∙ sym (append-nil _) ∙ ap (λ l. vec_items c.loop-place.octets ++ l) (sym (none_ends _ w.in_default.not-Octet))))
     ]
 
-pub returns-in_err-end : goal.returns-in_err-end
-returns-in_err-end c =
+pub returns-in_err-end-clause-reads : goal.returns-in_err-end-clause-reads
+returns-in_err-end-clause-reads c =
     let p = err_from_is_err_and c.from_residual-in_err-end.result c.from_residual-in_err-end.ensures.1 in
     rw (p.1, p.2) (ends_badly c.loop-place.invariant c.in_err-end.field-0.0 (omega arith) c.in_err-end.ensures)
 
-pub returns : goal.returns
-returns c = ends c.loop-place.invariant (omega arith) c.in_ok-end.ensures
+pub returns-clause-reads : goal.returns-clause-reads
+returns-clause-reads c = ends c.loop-place.invariant (omega arith) c.in_ok-end.ensures
