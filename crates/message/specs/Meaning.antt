@@ -1,8 +1,11 @@
 -- The message type of the code, as its content: a segment's data is what the borrowed octets hold.
-use Rattle.std.specs.Prelude.{ℕ, Ok, Err, Result}
+use Rattle.std.specs.Prelude.{ℕ, Some, None, Ok, Err, Option, Result}
 use Rattle.message.specs.declared.fault.Fault.{Fault}
 use Rattle.message.specs.declared.content.ErrorCause.{ErrorCause}
 use Rattle.message.specs.declared.content.ErrorCause.TheVariants.{UnassignedDestination, InconsistentSource, PointCodeMismatch, ClassMismatch, Unqualified}
+use Rattle.message.specs.declared.content.ClassNumber.{ClassNumber}
+use Rattle.message.specs.declared.content.ClassNumber.TheVariants.{Two, Three}
+use Rattle.message.specs.declared.content.Credit.{Credit}
 use Rattle.message.specs.declared.content.ProtocolClass.{ProtocolClass}
 use Rattle.message.specs.declared.content.ProtocolClass.TheVariants.{Class2, Class3}
 use Rattle.message.specs.declared.content.Message.{Message}
@@ -14,6 +17,16 @@ use Rattle.message.specs.Content.{Content}
 abbrev pub class_number : ProtocolClass → ℕ
 class_number Class2 = 2
 class_number (Class3 credit) = 3
+
+-- the number of a class by itself
+abbrev pub number_of_class : ClassNumber → ℕ
+number_of_class Two = 2
+number_of_class Three = 3
+
+-- the credit that a class has
+abbrev pub credit_of : ProtocolClass → Option Credit
+credit_of Class2 = None
+credit_of (Class3 credit) = Some credit
 
 -- the credit, 0 in class 2
 abbrev pub credit_number : ProtocolClass → ℕ

@@ -3,52 +3,52 @@ ghost use Rattle.std.specs.Prelude.{◌≡◌};
 ghost use Rattle.message.specs.Refusals.{number as number_of, layer as layer_of};
 
 // The part of the stack that refuses.
-#[derive(Clone, Copy)]
+#[derive(Clone, Copy, PartialEq, Eq, Debug)]
 pub enum Layer {
     Route = 1,
     Message = 2,
     Node = 3,
 }
 
-// The eighteen refusals, in the order in which they are checked.
+// The eighteen refusals with their numbers, in the order in which they are checked.
 #[derive(Clone, Copy, PartialEq, Eq, Debug)]
 pub enum Refusal {
     // a table, unit memory, buffer or route of a wrong size
-    MemorySize,
+    MemorySize = 1,
     // an end other than 0 and 1
-    NoSuchEnd,
+    NoSuchEnd = 2,
     // no message stands there
-    NoMessage,
+    NoMessage = 3,
     // a message of 0 or over 268 octets
-    MessageLength,
+    MessageLength = 4,
     // a type that is not one of the eleven
-    UnknownType,
+    UnknownType = 5,
     // the message ends within its fixed fields or pointers
-    CutShort,
+    CutShort = 6,
     // a fixed field has a value that is not listed
-    FieldValue,
+    FieldValue = 7,
     // a wrong pointer, a bad variable part, or octets left over
-    VariablePart,
+    VariablePart = 8,
     // a bad parameter, a missing end, or octets behind the end
-    OptionalPart,
+    OptionalPart = 9,
     // class 3 without a credit of 1 to 127, or class 2 with one
-    CreditMisfit,
+    CreditMisfit = 10,
     // a reference of 0 or beyond the table
-    NoSuchReference,
+    NoSuchReference = 11,
     // a value outside its limits
-    OutOfLimits,
+    OutOfLimits = 12,
     // the section's state does not allow the call
-    WrongState,
+    WrongState = 13,
     // the section's class does not allow the call
-    WrongClass,
+    WrongClass = 14,
     // no record is idle
-    NoIdleRecord,
+    NoIdleRecord = 15,
     // another place of the unit than the one reached
-    WrongPlace,
+    WrongPlace = 16,
     // the window is full
-    WindowFull,
+    WindowFull = 17,
     // the way is full
-    WayFull,
+    WayFull = 18,
 }
 
 // A refusal, and the octet of the message at which it arose: 0 outside the message layer.
@@ -62,34 +62,21 @@ impl Refusal {
     pub fn number(self) -> u8
         ensures { result ≡ number_of self }
     {
-        match self {
-            Refusal::MemorySize => 1,
-            Refusal::NoSuchEnd => 2,
-            Refusal::NoMessage => 3,
-            Refusal::MessageLength => 4,
-            Refusal::UnknownType => 5,
-            Refusal::CutShort => 6,
-            Refusal::FieldValue => 7,
-            Refusal::VariablePart => 8,
-            Refusal::OptionalPart => 9,
-            Refusal::CreditMisfit => 10,
-            Refusal::NoSuchReference => 11,
-            Refusal::OutOfLimits => 12,
-            Refusal::WrongState => 13,
-            Refusal::WrongClass => 14,
-            Refusal::NoIdleRecord => 15,
-            Refusal::WrongPlace => 16,
-            Refusal::WindowFull => 17,
-            Refusal::WayFull => 18,
-        }
+        self as u8
     }
 
     pub fn layer(self) -> Layer
         ensures { result ≡ layer_of self }
     {
-        match self.number() {
-            2 | 3 | 18 => Layer::Route,
-            4..=10 => Layer::Message,
+        match self {
+            Refusal::NoSuchEnd | Refusal::NoMessage | Refusal::WayFull => Layer::Route,
+            Refusal::MessageLength
+            | Refusal::UnknownType
+            | Refusal::CutShort
+            | Refusal::FieldValue
+            | Refusal::VariablePart
+            | Refusal::OptionalPart
+            | Refusal::CreditMisfit => Layer::Message,
             _ => Layer::Node,
         }
     }

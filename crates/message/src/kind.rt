@@ -1,30 +1,48 @@
-// The type octets of the eleven messages, and the sizes that all messages share.
-pub const CONNECTION_REQUEST: u8 = 0x01;
+// The types of messages, and the octets and sizes that layouts share.
+ghost use Rattle.std.specs.Prelude.{◌≡◌};
+ghost use Rattle.message.specs.Types.{ReadsType};
 
-pub const CONNECTION_CONFIRM: u8 = 0x02;
+use crate::fault::{Fault, Refusal};
 
-pub const CONNECTION_REFUSED: u8 = 0x03;
+// The eleven types, by the octets that stand for them.
+#[derive(Clone, Copy, PartialEq, Eq, Debug)]
+pub enum MessageType {
+    ConnectionRequest = 0x01,
+    ConnectionConfirm = 0x02,
+    ConnectionRefused = 0x03,
+    Released = 0x04,
+    ReleaseComplete = 0x05,
+    DataForm1 = 0x06,
+    DataForm2 = 0x07,
+    DataAcknowledgement = 0x08,
+    ResetRequest = 0x0d,
+    ResetConfirm = 0x0e,
+    Error = 0x0f,
+}
 
-pub const RELEASED: u8 = 0x04;
+// The type is the first octet of a message.
+impl TryFrom<u8> for MessageType {
+    type Error = Fault;
 
-pub const RELEASE_COMPLETE: u8 = 0x05;
+    ghost try_from_gives = { ReadsType };
 
-pub const DATA_FORM_1: u8 = 0x06;
-
-pub const DATA_FORM_2: u8 = 0x07;
-
-pub const DATA_ACKNOWLEDGEMENT: u8 = 0x08;
-
-pub const RESET_REQUEST: u8 = 0x0d;
-
-pub const RESET_CONFIRM: u8 = 0x0e;
-
-pub const ERROR: u8 = 0x0f;
-
-// The protocol classes as they stand in CR and CC.
-pub const CLASS_2: u8 = 2;
-
-pub const CLASS_3: u8 = 3;
+    fn try_from(octet: u8) -> Result<MessageType, Fault> {
+        match octet {
+            0x01 => Ok(MessageType::ConnectionRequest),
+            0x02 => Ok(MessageType::ConnectionConfirm),
+            0x03 => Ok(MessageType::ConnectionRefused),
+            0x04 => Ok(MessageType::Released),
+            0x05 => Ok(MessageType::ReleaseComplete),
+            0x06 => Ok(MessageType::DataForm1),
+            0x07 => Ok(MessageType::DataForm2),
+            0x08 => Ok(MessageType::DataAcknowledgement),
+            0x0d => Ok(MessageType::ResetRequest),
+            0x0e => Ok(MessageType::ResetConfirm),
+            0x0f => Ok(MessageType::Error),
+            _ => Err(Refusal::UnknownType.at(0)),
+        }
+    }
+}
 
 // The most octets that a message has, and the fewest that a buffer for one has.
 pub const LARGEST_MESSAGE: usize = 268;
