@@ -4,4 +4,5 @@ pub mod Optional
 pub mod Sound
 pub mod Complete
 pub mod Agree
+pub mod Types
 pub mod Limits

@@ -2,11 +2,11 @@
 #![tactic(auto)]
 
 ghost use Rattle.std.specs.Prelude.{◌≡◌, ◌+◌, ◌<◌};
-ghost use Rattle.message.specs.Meaning.{error_number};
+ghost use Rattle.message.specs.Meaning.{error_number, number_of_class};
 ghost use Rattle.reader.specs.Window.{window, outcome, nothing};
 ghost use Rattle.reader.specs.Reading as reading;
 
-use message::content::{ErrorCause, Reference, SequenceNumber};
+use message::content::{Cause, ClassNumber, Credit, ErrorCause, Reference, SequenceNumber};
 use message::fault::{Fault, Refusal};
 
 mod parts;
@@ -30,6 +30,7 @@ struct Pointer {
 
 impl<'a> Reader<'a> {
     // The message has its type, fixed fields and pointers, which are `size` octets.
+    #[tactic(auto, unfolding(crate::specs::Reading::header))]
     fn header(&mut self, size: usize) -> Result<(), Fault>
         ensures { outcome nothing result self.new ≡ reading.header size (window self.old) }
     {
@@ -40,18 +41,19 @@ impl<'a> Reader<'a> {
     }
 
     // The next octet, or a refusal at the message's length.
+    #[tactic(auto, unfolding(crate::specs::Reading::octet))]
     fn octet(&mut self, missing: Refusal) -> Result<u8, Fault>
         ensures { outcome (λ x. x) result self.new ≡ reading.octet missing (window self.old) }
     {
-        if self.at >= self.octets.len() {
+        let Some(octet) = self.octets.get(self.at) else {
             return Err(missing.at(self.octets.len()));
-        }
-        let octet = self.octets[self.at];
+        };
         self.at += 1;
-        Ok(octet)
+        Ok(*octet)
     }
 
     // The message ends here, or a refusal at the first octet left.
+    #[tactic(auto, unfolding(crate::specs::Reading::ends))]
     fn ends(&mut self, left: Refusal) -> Result<(), Fault>
         ensures { outcome nothing result self.new ≡ reading.ends left (window self.old) }
     {
@@ -62,22 +64,24 @@ impl<'a> Reader<'a> {
     }
 
     // A length of at least 1 and as many octets, or a refusal at `place`.
+    #[tactic(auto, unfolding(crate::specs::Reading::counted))]
     fn counted(&mut self, wrong: Refusal, place: usize) -> Result<&'a [u8], Fault>
         ensures { outcome (λ x. x.now) result self.new ≡ reading.counted wrong place (window self.old) }
     {
         let octets = self.octets;
-        let from = self.at;
-        if from >= octets.len() {
+        let Some(size) = octets.get(self.at) else {
+            return Err(wrong.at(place));
+        };
+        let from = self.at + 1;
+        let to = from + usize::from(*size);
+        if *size == 0 || to > octets.len() {
             return Err(wrong.at(place));
         }
-        let size = octets[from] as usize;
-        if size == 0 || size > octets.len() - from - 1 {
-            return Err(wrong.at(place));
-        }
-        self.at = from + 1 + size;
-        Ok(&octets[from + 1..from + 1 + size])
+        self.at = to;
+        Ok(&octets[from..to])
     }
 
+    #[tactic(auto, unfolding(crate::specs::Reading::reference))]
     fn reference(&mut self) -> Result<Reference, Fault>
         ensures { outcome (λ x. x.0) result self.new ≡ reading.reference (window self.old) }
     {
@@ -85,42 +89,57 @@ impl<'a> Reader<'a> {
         let low = self.octet(Refusal::CutShort)?;
         let middle = self.octet(Refusal::CutShort)?;
         let high = self.octet(Refusal::CutShort)?;
-        let value = u32::from(low) + 256 * u32::from(middle) + 65536 * u32::from(high);
-        if value == 0 {
-            return Err(Refusal::FieldValue.at(place));
-        }
-        Ok(Reference(value))
+        Reference::try_from([low, middle, high]).map_err(|refusal| refusal.at(place))
     }
 
     // A field of one octet, with a value from `low` to `high`.
+    #[tactic(auto, unfolding(crate::specs::Reading::field))]
     fn field(&mut self, low: u8, high: u8) -> Result<u8, Fault>
         ensures { outcome (λ x. x) result self.new ≡ reading.field low high (window self.old) }
     {
         let place = self.at;
         let value = self.octet(Refusal::CutShort)?;
-        if value < low || value > high {
-            return Err(Refusal::FieldValue.at(place));
+        if (low..=high).contains(&value) {
+            Ok(value)
+        } else {
+            Err(Refusal::FieldValue.at(place))
         }
-        Ok(value)
     }
 
-    // The cause in ERR: a field of 0 to 4.
+    #[tactic(auto, unfolding(crate::specs::Reading::field))]
+    fn class(&mut self) -> Result<ClassNumber, Fault>
+        ensures { outcome number_of_class result self.new ≡ reading.field 2 3 (window self.old) }
+    {
+        let place = self.at;
+        let octet = self.octet(Refusal::CutShort)?;
+        ClassNumber::try_from(octet).map_err(|refusal| refusal.at(place))
+    }
+
+    // The cause in CREF, RLSD and RSR.
+    fn cause(&mut self) -> Result<Cause, Fault>
+        ensures { outcome (λ x. x.0) result self.new ≡ reading.field 0 15 (window self.old) }
+    {
+        self.field(0, 15).map(Cause)
+    }
+
+    // The cause in ERR.
+    #[tactic(auto, unfolding(crate::specs::Reading::field))]
     fn error_cause(&mut self) -> Result<ErrorCause, Fault>
         ensures { outcome error_number result self.new ≡ reading.field 0 4 (window self.old) }
     {
         let place = self.at;
-        let cause = match self.octet(Refusal::CutShort)? {
-            0 => ErrorCause::UnassignedDestination,
-            1 => ErrorCause::InconsistentSource,
-            2 => ErrorCause::PointCodeMismatch,
-            3 => ErrorCause::ClassMismatch,
-            4 => ErrorCause::Unqualified,
-            _ => return Err(Refusal::FieldValue.at(place)),
-        };
-        Ok(cause)
+        let octet = self.octet(Refusal::CutShort)?;
+        ErrorCause::try_from(octet).map_err(|refusal| refusal.at(place))
+    }
+
+    fn credit(&mut self) -> Result<Credit, Fault>
+        ensures { outcome (λ x. x.0) result self.new ≡ reading.field 1 127 (window self.old) }
+    {
+        self.field(1, 127).map(Credit)
     }
 
     // A sequence number by itself in an octet: twice its value.
+    #[tactic(auto, unfolding(crate::specs::Reading::sequence_number))]
     fn sequence_number(&mut self) -> Result<SequenceNumber, Fault>
         ensures { outcome (λ x. x.0) result self.new ≡ reading.sequence_number (window self.old) }
     {
@@ -132,6 +151,7 @@ impl<'a> Reader<'a> {
         Ok(SequenceNumber(twice / 2))
     }
 
+    #[tactic(auto, unfolding(crate::specs::Reading::pointer))]
     fn pointer(&mut self) -> Result<Pointer, Fault>
         ensures { outcome (λ x. (x.place, x.distance)) result self.new ≡ reading.pointer (window self.old) }
     {

@@ -1,24 +1,27 @@
 // The variable part and the optional part of a message.
 ghost use Rattle.std.specs.Prelude.{◌≡◌, ◌<◌};
-ghost use Rattle.message.specs.Meaning.{classes};
+ghost use Rattle.message.specs.Meaning.{classes, number_of_class};
 ghost use Rattle.reader.specs.Window.{window, outcome, nothing};
 ghost use Rattle.reader.specs.Reading as reading;
 
 use crate::{Pointer, Reader};
-use message::content::{Credit, ProtocolClass, Subsystem};
+use message::content::{ClassNumber, Credit, ProtocolClass, Subsystem};
 use message::fault::{Fault, Refusal};
 use message::kind;
 
 impl<'a> Reader<'a> {
+    #[tactic(auto, unfolding(crate::specs::Reading::points_here))]
     pub(crate) fn points_here(&mut self, pointer: Pointer) -> Result<(), Fault>
         ensures { outcome nothing result self.new ≡ reading.points_here (pointer.place, pointer.distance) (window self.old) }
     {
-        if self.at < pointer.place || self.at - pointer.place != pointer.distance as usize {
-            return Err(Refusal::VariablePart.at(pointer.place));
+        if self.at.checked_sub(pointer.place) == Some(usize::from(pointer.distance)) {
+            Ok(())
+        } else {
+            Err(Refusal::VariablePart.at(pointer.place))
         }
-        Ok(())
     }
 
+    #[tactic(auto, unfolding(crate::specs::Reading::variable))]
     pub(crate) fn variable(&mut self) -> Result<&'a [u8], Fault>
         ensures { outcome (λ x. x.now) result self.new ≡ reading.variable (window self.old) }
     {
@@ -27,18 +30,19 @@ impl<'a> Reader<'a> {
     }
 
     // 42 (hexadecimal) and a subsystem number that is not 0.
+    #[tactic(auto, unfolding(crate::specs::Reading::called_address))]
     pub(crate) fn called_address(&mut self) -> Result<Subsystem, Fault>
         ensures { outcome (λ x. x.0) result self.new ≡ reading.called_address (window self.old) }
     {
         let place = self.at;
-        let part = self.variable()?;
-        if part.len() != 2 || part[0] != kind::ADDRESS_BY_SUBSYSTEM || part[1] == 0 {
-            return Err(Refusal::VariablePart.at(place));
+        match self.variable()? {
+            [kind::ADDRESS_BY_SUBSYSTEM, subsystem @ 1..] => Ok(Subsystem(*subsystem)),
+            _ => Err(Refusal::VariablePart.at(place)),
         }
-        Ok(Subsystem(part[1]))
     }
 
     // V and a segment's data straight behind it, which end the message.
+    #[tactic(auto, unfolding(crate::specs::Reading::segment))]
     pub(crate) fn segment(&mut self) -> Result<&'a [u8], Fault>
         ensures { outcome (λ x. x.now) result self.new ≡ reading.segment (window self.old) }
     {
@@ -50,6 +54,7 @@ impl<'a> Reader<'a> {
     }
 
     // V, O and the called address straight behind them: the subsystem, and O.
+    #[tactic(auto, unfolding(crate::specs::Reading::called_party))]
     pub(crate) fn called_party(&mut self) -> Result<(Subsystem, Pointer), Fault>
         ensures { outcome (λ x. (x.0.0, (x.1.place, x.1.distance))) result self.new ≡ reading.called_party (window self.old) }
     {
@@ -61,6 +66,7 @@ impl<'a> Reader<'a> {
     }
 
     // What O points to: nothing where it is 00, otherwise an optional part. Answers the credit found in it.
+    #[tactic(auto, unfolding(crate::specs::Reading::optional_part))]
     pub(crate) fn optional_part(&mut self, due: bool, pointer: Pointer) -> Result<Option<u8>, Fault>
         ensures { outcome (λ x. x) result self.new ≡ reading.optional_part due (pointer.place, pointer.distance) (window self.old) }
     {
@@ -73,6 +79,7 @@ impl<'a> Reader<'a> {
     }
 
     // An optional part: the octet 00, or a parameter followed by an optional part.
+    #[tactic(auto, unfolding(crate::specs::Reading::parameters))]
     fn parameters(&mut self, due: bool, found: Option<u8>) -> Result<Option<u8>, Fault>
         ensures { outcome (λ x. x) result self.new ≡ reading.any_parameters due found (window self.old) }
     {
@@ -89,6 +96,7 @@ impl<'a> Reader<'a> {
 }
 
 // The credit known after a parameter: a second or misfit credit is refused, any other parameter is stepped over.
+#[tactic(auto, unfolding(crate::specs::Reading::credit_after))]
 fn credit_after(
     due: bool,
     found: Option<u8>,
@@ -101,23 +109,26 @@ fn credit_after(
     if !due || name != kind::CREDIT_PARAMETER {
         return Ok(found);
     }
-    if found.is_some() || part.len() != 1 {
-        return Err(Refusal::OptionalPart.at(named));
+    match (found, part) {
+        (None, [credit]) => Ok(Some(*credit)),
+        _ => Err(Refusal::OptionalPart.at(named)),
     }
-    Ok(Some(part[0]))
 }
 
 // Class 2 has no credit, class 3 one of 1 to 127.
-pub(crate) fn agreed(place: usize, class: u8, found: Option<u8>) -> Result<ProtocolClass, Fault>
-    ensures { classes result ≡ reading.agreed place class found }
+#[tactic(auto, unfolding(crate::specs::Reading::agreed))]
+pub(crate) fn agreed(
+    place: usize,
+    class: ClassNumber,
+    found: Option<u8>,
+) -> Result<ProtocolClass, Fault>
+    ensures { classes result ≡ reading.agreed place (number_of_class class) found }
 {
-    match found {
-        None if class == kind::CLASS_2 => Ok(ProtocolClass::Class2),
-        Some(credit) if class != kind::CLASS_2 && credit >= 1 && credit <= 127 => Ok(
-            ProtocolClass::Class3 {
-                credit: Credit(credit),
-            },
-        ),
+    match (class, found) {
+        (ClassNumber::Two, None) => Ok(ProtocolClass::Class2),
+        (ClassNumber::Three, Some(credit @ 1..=127)) => Ok(ProtocolClass::Class3 {
+            credit: Credit(credit),
+        }),
         _ => Err(Refusal::CreditMisfit.at(place)),
     }
 }

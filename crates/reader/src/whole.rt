@@ -3,14 +3,15 @@ ghost use Rattle.std.specs.Prelude.{◌≡◌, ◌<◌, true, ◌↔◌, IfOk, O
 ghost use Rattle.message.specs.Content.{Content, within};
 ghost use Rattle.message.specs.Layout.{IsMessage};
 ghost use Rattle.message.specs.Meaning.{meaning, means};
+ghost use Rattle.message.specs.Types.{type_octet};
 ghost use Rattle.reader.specs.Window.{window, outcome};
 ghost use Rattle.reader.specs.Reading as reading;
 
 use crate::Reader;
 use crate::parts::agreed;
-use message::content::{Cause, Credit, Message, Reference, SequenceNumber};
+use message::content::{Message, Reference, SequenceNumber};
 use message::fault::{Fault, Refusal};
-use message::kind;
+use message::kind::{LARGEST_MESSAGE, MessageType};
 
 // What the octets of a message say, or why they are none.
 pub fn read<'a>(octets: &'a [u8]) -> Result<Message<'a>, Fault>
@@ -18,30 +19,30 @@ pub fn read<'a>(octets: &'a [u8]) -> Result<Message<'a>, Fault>
     ensures laid_out { (c : Content) → (means result ≡ Ok c) ↔ IsMessage c octets.now }
     ensures fits { IfOk result (λ message. within (meaning message) ≡ true) }
 {
-    if octets.len() == 0 || octets.len() > kind::LARGEST_MESSAGE {
+    if !(1..=LARGEST_MESSAGE).contains(&octets.len()) {
         return Err(Refusal::MessageLength.at(0));
     }
+    let kind = MessageType::try_from(octets[0])?;
     let mut reader = Reader { octets, at: 1 };
-    reader.message(octets[0])
+    reader.message(kind)
 }
 
 impl<'a> Reader<'a> {
-    fn message(&mut self, kind: u8) -> Result<Message<'a>, Fault>
-        ensures { means result ≡ reading.value (reading.message_of kind (window self.old)) }
+    fn message(&mut self, kind: MessageType) -> Result<Message<'a>, Fault>
+        ensures { means result ≡ reading.value (reading.message_of (type_octet kind) (window self.old)) }
     {
         match kind {
-            kind::CONNECTION_REQUEST => self.connection_request(),
-            kind::CONNECTION_CONFIRM => self.connection_confirm(),
-            kind::CONNECTION_REFUSED => self.connection_refused(),
-            kind::RELEASED => self.released(),
-            kind::RELEASE_COMPLETE => self.release_complete(),
-            kind::DATA_FORM_1 => self.data_form_1(),
-            kind::DATA_FORM_2 => self.data_form_2(),
-            kind::DATA_ACKNOWLEDGEMENT => self.data_acknowledgement(),
-            kind::RESET_REQUEST => self.reset_request(),
-            kind::RESET_CONFIRM => self.reset_confirm(),
-            kind::ERROR => self.error(),
-            _ => Err(Refusal::UnknownType.at(0)),
+            MessageType::ConnectionRequest => self.connection_request(),
+            MessageType::ConnectionConfirm => self.connection_confirm(),
+            MessageType::ConnectionRefused => self.connection_refused(),
+            MessageType::Released => self.released(),
+            MessageType::ReleaseComplete => self.release_complete(),
+            MessageType::DataForm1 => self.data_form_1(),
+            MessageType::DataForm2 => self.data_form_2(),
+            MessageType::DataAcknowledgement => self.data_acknowledgement(),
+            MessageType::ResetRequest => self.reset_request(),
+            MessageType::ResetConfirm => self.reset_confirm(),
+            MessageType::Error => self.error(),
         }
     }
 
@@ -51,7 +52,7 @@ impl<'a> Reader<'a> {
         self.header(7)?;
         let source = self.reference()?;
         let place = self.at;
-        let class = self.field(kind::CLASS_2, kind::CLASS_3)?;
+        let class = self.class()?;
         let (subsystem, optional) = self.called_party()?;
         let found = self.optional_part(true, optional)?;
         let class = agreed(place, class, found)?;
@@ -69,7 +70,7 @@ impl<'a> Reader<'a> {
         let destination = self.reference()?;
         let source = self.reference()?;
         let place = self.at;
-        let class = self.field(kind::CLASS_2, kind::CLASS_3)?;
+        let class = self.class()?;
         let optional = self.pointer()?;
         let found = self.optional_part(true, optional)?;
         let class = agreed(place, class, found)?;
@@ -85,13 +86,10 @@ impl<'a> Reader<'a> {
     {
         self.header(6)?;
         let destination = self.reference()?;
-        let cause = self.field(0, 15)?;
+        let cause = self.cause()?;
         let optional = self.pointer()?;
         self.optional_part(false, optional)?;
-        Ok(Message::ConnectionRefused {
-            destination,
-            cause: Cause(cause),
-        })
+        Ok(Message::ConnectionRefused { destination, cause })
     }
 
     fn released(&mut self) -> Result<Message<'a>, Fault>
@@ -100,17 +98,18 @@ impl<'a> Reader<'a> {
         self.header(9)?;
         let destination = self.reference()?;
         let source = self.reference()?;
-        let cause = self.field(0, 15)?;
+        let cause = self.cause()?;
         let optional = self.pointer()?;
         self.optional_part(false, optional)?;
         Ok(Message::Released {
             destination,
             source,
-            cause: Cause(cause),
+            cause,
         })
     }
 
     // RLC and RSC: a destination and a source.
+    #[tactic(auto, unfolding(crate::specs::Reading::two_references))]
     fn two_references(&mut self) -> Result<(Reference, Reference), Fault>
         ensures { outcome (λ x. (x.0.0, x.1.0)) result self.new ≡ reading.two_references (window self.old) }
     {
@@ -169,12 +168,12 @@ impl<'a> Reader<'a> {
         self.header(6)?;
         let destination = self.reference()?;
         let receive = self.sequence_number()?;
-        let credit = self.field(1, 127)?;
+        let credit = self.credit()?;
         self.ends(Refusal::VariablePart)?;
         Ok(Message::DataAcknowledgement {
             destination,
             receive,
-            credit: Credit(credit),
+            credit,
         })
     }
 
@@ -184,12 +183,12 @@ impl<'a> Reader<'a> {
         self.header(8)?;
         let destination = self.reference()?;
         let source = self.reference()?;
-        let cause = self.field(0, 15)?;
+        let cause = self.cause()?;
         self.ends(Refusal::VariablePart)?;
         Ok(Message::ResetRequest {
             destination,
             source,
-            cause: Cause(cause),
+            cause,
         })
     }
 
