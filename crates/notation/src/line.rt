@@ -1,17 +1,16 @@
 // Messages and refusals written as lines of text.
 ghost use Rattle.std.specs.Prelude.{◌≡◌, Some};
-ghost use Rattle.message.specs.Meaning.{meaning, means, class_number, credit_number, error_number};
-ghost use Rattle.message.specs.Refusals.{layer_number};
+ghost use Rattle.message.specs.Meaning.{meaning, means, credit_number};
 ghost use Rattle.notation.specs.Lines.{line, refusal_line, answer_line};
 
 use hex_text::octets::Hex;
-use message::content::{ErrorCause, Message, ProtocolClass};
-use message::fault::{Fault, Layer};
+use message::content::{Message, ProtocolClass};
+use message::fault::Fault;
 use std::fmt;
 use std::fmt::Display;
 
 // The line of a message: its name, then each field as name=value.
-#[derive(Clone, Copy)]
+#[derive(Clone, Copy, PartialEq, Eq, Debug)]
 pub struct Line<'a>(pub Message<'a>);
 
 impl fmt::Display for Line<'_> {
@@ -24,8 +23,8 @@ impl fmt::Display for Line<'_> {
                 class,
                 subsystem,
             } => {
-                let number = class_of(class);
-                let credit = credit_of(class);
+                let number = class.number() as u8;
+                let credit = credit_in(class);
                 write!(
                     f,
                     "CR source={} class={number} subsystem={} credit={credit}",
@@ -37,8 +36,8 @@ impl fmt::Display for Line<'_> {
                 source,
                 class,
             } => {
-                let number = class_of(class);
-                let credit = credit_of(class);
+                let number = class.number() as u8;
+                let credit = credit_in(class);
                 write!(
                     f,
                     "CC destination={} source={} class={number} credit={credit}",
@@ -116,15 +115,14 @@ impl fmt::Display for Line<'_> {
             Message::Error { destination, cause } => write!(
                 f,
                 "ERR destination={} cause={}",
-                destination.0,
-                cause_of(cause)
+                destination.0, cause as u8
             ),
         }
     }
 }
 
 // The line of a refusal: its number, the layer that refuses, and the octet of the message.
-#[derive(Clone, Copy)]
+#[derive(Clone, Copy, PartialEq, Eq, Debug)]
 pub struct RefusalLine(pub Fault);
 
 impl fmt::Display for RefusalLine {
@@ -133,7 +131,7 @@ impl fmt::Display for RefusalLine {
     fn fmt<W: fmt::Write>(&self, f: &mut fmt::Formatter<W>) -> fmt::Result {
         let fault = self.0;
         let number = fault.refusal.number();
-        let layer = layer_of(fault.refusal.layer());
+        let layer = fault.refusal.layer() as u8;
         write!(
             f,
             "refused number={number} layer={layer} place={}",
@@ -143,7 +141,7 @@ impl fmt::Display for RefusalLine {
 }
 
 // The line of what octets are read as: a message or a refusal.
-#[derive(Clone, Copy)]
+#[derive(Clone, Copy, PartialEq, Eq, Debug)]
 pub struct AnswerLine<'a>(pub Result<Message<'a>, Fault>);
 
 impl fmt::Display for AnswerLine<'_> {
@@ -157,33 +155,9 @@ impl fmt::Display for AnswerLine<'_> {
     }
 }
 
-fn class_of(class: ProtocolClass) -> u8
-    ensures { result ≡ class_number class }
-{
-    match class {
-        ProtocolClass::Class2 => 2,
-        ProtocolClass::Class3 { .. } => 3,
-    }
-}
-
-// The credit, or 0 where the class has none.
-fn credit_of(class: ProtocolClass) -> u8
+// The credit as it is shown: 0 where the class has none.
+fn credit_in(class: ProtocolClass) -> u8
     ensures { result ≡ credit_number class }
 {
-    match class {
-        ProtocolClass::Class2 => 0,
-        ProtocolClass::Class3 { credit } => credit.0,
-    }
-}
-
-fn cause_of(cause: ErrorCause) -> u8
-    ensures { result ≡ error_number cause }
-{
-    cause as u8
-}
-
-fn layer_of(layer: Layer) -> u8
-    ensures { result ≡ layer_number layer }
-{
-    layer as u8
+    class.credit().map_or(0, |credit| credit.0)
 }

@@ -80,7 +80,7 @@ credit_size class credit distance between h = by (eqb class 3) refl
     by false e = rw e (omega arith)
 
 -- no message is longer than 268 octets
-size_back : (c : Content) → within c ≡ true → length (layout c) ≤ 268
+pub size_back : (c : Content) → within c ≡ true → length (layout c) ≤ 268
 size_back (content.connection_request source class credit subsystem) h = let s = credit_size class credit 4 (2 ∷ 66 ∷ subsystem ∷ []) (lit≤ tt) in omega arith
 size_back (content.connection_confirm destination source class credit) h = let s = credit_size class credit 1 [] (lit≤ tt) in omega arith
 size_back (content.connection_refused destination cause) h = lit≤ tt

@@ -1,5 +1,5 @@
 -- What writing a message answers, and what it leaves in the buffer.
-use Rattle.std.specs.Prelude.{◌≡◌, ℕ, cond, List, ◌++◌, length, drop, Ok, Err, Result, nat_lt}
+use Rattle.std.specs.Prelude.{ℕ, cond, List, ◌++◌, length, drop, Ok, Err, Result, nat_lt}
 use Rattle.message.specs.declared.fault.Fault.{Fault}
 use Rattle.message.specs.declared.fault.Refusal.TheVariants.{MemorySize, OutOfLimits}
 use Rattle.message.specs.Content.{Content, within}
@@ -8,10 +8,6 @@ use Rattle.message.specs.Layout.{layout}
 -- the message at the front of a buffer, and behind it what was there
 abbrev pub laid : Content → List ℕ → List ℕ
 laid c buffer = layout c ++ drop (length (layout c)) buffer
-
--- a message was laid out in a buffer, and its size was answered
-abbrev pub Lays : Content → List ℕ → List ℕ → ℕ → Type 0
-Lays c before after size = (size ≡ length (layout c)) × (after ≡ laid c before)
 
 -- what writing answers: the size, or a refusal of a buffer under 268 octets, and then of a message with a field outside its limits
 abbrev pub written_answer : Content → List ℕ → Result ℕ Fault

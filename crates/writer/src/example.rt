@@ -3,6 +3,7 @@ ghost use Rattle.std.specs.Prelude.{◌≡◌};
 ghost use Rattle.writer.specs.Examples.{request, WorkedExamples};
 
 // The octets of a connection request: source 5, class 3, subsystem 254, credit 4.
+#[tactic(auto, using(crate::proofs::Examples::worked_examples))]
 pub fn example_request() -> [u8; 14]
     ensures octets { result ≡ request }
     ensures examples { WorkedExamples }
