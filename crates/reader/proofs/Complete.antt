@@ -216,8 +216,8 @@ module _ (w : Window) (start : w.place ≡ 1) where
   message_read (content.released destination source cause) type l = one_type _ type 4 _ l.4 (released_read destination source cause) l
   message_read (content.release_complete destination source) type l =
       one_type _ type 5 _ l.2 (λ (d, s, e, is_d, is_s). let g = references_read 5 destination source d s e is_d is_s in (g.0, rw g.1 refl)) l
-  message_read (content.data_form_1 destination more segment) type l = one_type _ type 6 _ l.1 (form_1_read destination more segment) l
-  message_read (content.data_form_2 destination send receive more segment) type l = one_type _ type 7 _ l.1 (form_2_read destination send receive more segment) l
+  message_read (content.data_form_1 destination more octets) type l = one_type _ type 6 _ l.1 (form_1_read destination more octets) l
+  message_read (content.data_form_2 destination send receive more octets) type l = one_type _ type 7 _ l.1 (form_2_read destination send receive more octets) l
   message_read (content.data_acknowledgement destination receive credit) type l = one_type _ type 8 _ l.1 (acknowledgement_read destination receive credit) l
   message_read (content.reset_request destination source cause) type l = one_type _ type 13 _ l.2 (reset_read destination source cause) l
   message_read (content.reset_confirm destination source) type l =
@@ -225,7 +225,7 @@ module _ (w : Window) (start : w.place ≡ 1) where
   message_read (content.error destination cause) type l = one_type _ type 15 _ l.1 (error_read destination cause) l
 
 bare : {x : ℕ} {xs : List ℕ} → [] ≡ x ∷ xs → ⊥
-bare e = let z : ◌≡◌ {A = ℕ} 0 1 = cc in omega arith
+bare e = cc
 
 never_empty : (c : Content) → LaidOut c [] → ⊥
 never_empty (content.connection_request source class credit subsystem) l = bare l.3
@@ -233,8 +233,8 @@ never_empty (content.connection_confirm destination source class credit) l = bar
 never_empty (content.connection_refused destination cause) l = bare l.3
 never_empty (content.released destination source cause) l = bare l.4
 never_empty (content.release_complete destination source) l = bare l.2
-never_empty (content.data_form_1 destination more segment) l = bare l.1
-never_empty (content.data_form_2 destination send receive more segment) l = bare l.1
+never_empty (content.data_form_1 destination more octets) l = bare l.1
+never_empty (content.data_form_2 destination send receive more octets) l = bare l.1
 never_empty (content.data_acknowledgement destination receive credit) l = bare l.1
 never_empty (content.reset_request destination source cause) l = bare l.2
 never_empty (content.reset_confirm destination source) l = bare l.2

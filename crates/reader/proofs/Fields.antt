@@ -9,7 +9,7 @@ use Rattle.message.specs.declared.fault.Refusal.TheVariants.{CutShort, VariableP
 use Rattle.reader.specs.Window.{Window, then}
 use Rattle.reader.specs.Reading.{octet, ends, counted, reference, field, sequence_number, pointer, points_here, variable, called_address}
 use Rattle.message.specs.Layout.{IsReference}
-use Rattle.reader.proofs.Steps.{no_answer, moved, octet_gives, counted_gives}
+use Rattle.reader.proofs.Steps.{moved, octet_gives, counted_gives}
 
 -- the octets from the place reached
 abbrev pub rest : Window → List ℕ
@@ -18,7 +18,7 @@ rest w = drop w.place w.octets
 -- a chain of steps that succeeds, step by step
 pub first : {A B : Type 0} (r : Result A Fault) (next : A → Result B Fault) (b : B) → then r next ≡ Ok b → (a : A) × (r ≡ Ok a) × (next a ≡ Ok b)
 first (Ok a) next b e = (a, refl, e)
-first (Err fault) next b e = absurd (no_answer e)
+first (Err fault) next b e = absurd cc
 
 -- a list of two
 two : (xs : List ℕ) → length xs ≡ 2 → xs ≡ get_or xs 0 0 ∷ get_or xs 1 0 ∷ []

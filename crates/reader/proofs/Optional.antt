@@ -7,7 +7,6 @@ use Rattle.message.specs.declared.fault.Refusal.TheVariants.{VariablePart, Optio
 use Rattle.reader.specs.Window.{Window, then, lift}
 use Rattle.reader.specs.Reading.{octet, ends, counted, credit_after, parameters, any_parameters, points_here, optional_part, agreed}
 use Rattle.message.specs.Layout.{IsOptional, ended, with_credit, with_other, HasCredit}
-use Rattle.reader.proofs.Steps.{no_answer}
 use Rattle.reader.proofs.Fields.{rest, first, octet_front, octet_takes, ends_front, ends_takes, counted_front, counted_takes, points_front, points_takes}
 
 -- the credit of the whole, from the one found before and the one of the part itself: there are not two
@@ -35,12 +34,12 @@ Parameter due found name part known =
 
 parameter_front : (due : Bool) (found : Option ℕ) (named name : ℕ) (part : List ℕ) (known : Option ℕ) → credit_after due found named name part ≡ Ok known → Parameter due found name part known
 unfolding credit_after Parameter
-parameter_front false found named name part known e = inr (let h = e in cc, λ t n. let z : ◌≡◌ {A = ℕ} 0 1 = cc in omega arith)
+parameter_front false found named name part known e = inr (let h = e in cc, λ t n. cc)
 parameter_front true found named name part known e = at found (eqb name 9) refl e
   where
     at : (found : Option ℕ) (b : Bool) → eqb name 9 ≡ b → credit_after true found named name part ≡ Ok known → Parameter true found name part known
     at found false n h = inr (let k = rw n at h in cc, λ t m. eqb-false name 9 n m)
-    at (Some x) true n h = absurd (no_answer (rw n at h))
+    at (Some x) true n h = let k = rw n at h in cc
     at None true n h = let k = rw n at h in
         let m : (length part ≡ 1) × (known ≡ Some (get_or part 0 0)) = (grind (arith, nat_tests), grind (arith, nat_tests)) in
         inl (refl, eqb-true name 9 n, refl, m.0, m.1)
@@ -49,7 +48,7 @@ parameter_front true found named name part known e = at found (eqb name 9) refl 
 pub parameters_front : (depth : ℕ) (due : Bool) (found : Option ℕ) (w : Window) (p : Option ℕ × Window) → parameters depth due found w ≡ Ok p →
     (own : Option ℕ) × IsOptional due own (rest w) × Joined found own p.0
 unfolding parameters Parameter
-parameters_front zero due found w p e = absurd (no_answer e)
+parameters_front zero due found w p e = absurd cc
 parameters_front (suc depth) due found w p e =
     let a = first (octet OptionalPart w) _ p e in
     let f = octet_front OptionalPart w a.0 a.1 in
@@ -100,7 +99,7 @@ parameters_takes due ended (suc depth) found whole w e h j =
     let a = octet_takes OptionalPart w 0 [] e in
     (a.0, rw (a.1, ends_takes OptionalPart a.0 a.2, joined_none found whole j) refl)
 parameters_takes due (with_credit {x = x} {rest = left} is_due is) zero found whole w e h j = absurd (omega arith)
-parameters_takes due (with_credit {x = x} {rest = left} is_due is) (suc depth) (Some y) whole w e h j = absurd (let n = j.0 in let z : ◌≡◌ {A = ℕ} 0 1 = cc in omega arith)
+parameters_takes due (with_credit {x = x} {rest = left} is_due is) (suc depth) (Some y) whole w e h j = let n = j.0 in cc
 parameters_takes due (with_credit {x = x} {rest = left} is_due is) (suc depth) None whole w e h j =
     let a = octet_takes OptionalPart w 9 (1 ∷ x ∷ left) e in
     let b = counted_takes OptionalPart a.0 w.place (x ∷ []) left (lit≤ tt) a.2 in
@@ -159,8 +158,8 @@ agreed_front place class found both l h e = by found (eqb class 2) refl e
         let k : Ok (2, 0) ≡ Ok both = rw n at e in
         let t : both ≡ (2, 0) = cc in
         (ap (λ q. q.0) t ∙ sym (eqb-true class 2 n), inl (eqb-true class 2 n, ap (λ q. q.1) t, refl))
-    by (Some x) true n e = absurd (no_answer (rw n at e))
-    by None false n e = absurd (no_answer (rw n at e))
+    by (Some x) true n e = let k = rw n at e in absurd cc
+    by None false n e = let k = rw n at e in absurd cc
     by (Some x) false n e =
         let k = rw n at e in
         let t : (both ≡ (3, x)) × (1 ≤ x) × (x ≤ 127) = (grind (arith, nat_tests), grind (arith, nat_tests), grind (arith, nat_tests)) in

@@ -9,7 +9,7 @@ use Rattle.reader.specs.Window.{Window, then, lift}
 use Rattle.message.specs.Content.{Content}
 use Rattle.reader.specs.Reading.{header, octet, ends, reference, field, sequence_number, pointer, points_here, variable, counted, called_address, segment, called_party, optional_part, agreed, two_references, connection_request, connection_confirm, connection_refused, released, release_complete, data_form_1, data_form_2, data_acknowledgement, reset_request, reset_confirm, error, message_of, value, reading}
 use Rattle.message.specs.Layout.{IsReference, IsOptional, Points, LaidOut, IsMessage, more_octet}
-use Rattle.reader.proofs.Steps.{no_answer, lift_value}
+use Rattle.reader.proofs.Steps.{lift_value}
 use Rattle.reader.proofs.Fields.{rest, first, further, octet_front, ends_front, counted_front, reference_front, field_front, sequence_front, pointer_front, points_front, address_front}
 use Rattle.reader.proofs.Optional.{optional_front, agreed_front}
 
@@ -239,16 +239,16 @@ module _ (w : Window) (p : Content × Window) where
       one_type type 1 _ _ request_laid (one_type type 2 _ _ confirm_laid (one_type type 3 _ _ refused_laid (one_type type 4 _ _ released_laid
       (one_type type 5 _ _ complete_laid (one_type type 6 _ _ form_1_laid (one_type type 7 _ _ form_2_laid (one_type type 8 _ _ acknowledgement_laid
       (one_type type 13 _ _ reset_laid (one_type type 14 _ _ confirmed_laid (one_type type 15 _ _ error_laid
-      (λ e. absurd (no_answer e))))))))))))
+      (λ e. absurd cc)))))))))))
 
 value_gives : (r : Result (Content × Window) Fault) (c : Content) → value r ≡ Ok c → (v : Window) × (r ≡ Ok (c, v))
 value_gives (Ok p) c e = (p.1, let same : p.0 ≡ c = cc in ap (λ x. Ok (x, p.1)) same)
-value_gives (Err fault) c e = absurd (no_answer e)
+value_gives (Err fault) c e = absurd cc
 
 -- what is read as a message is laid out as that message
 pub sound : (octets : List ℕ) (c : Content) → reading octets ≡ Ok c → IsMessage c octets
 unfolding reading
-sound [] c e = absurd (no_answer e)
+sound [] c e = absurd cc
 sound (type ∷ octets) c e =
     let w : Window = record { octets = type ∷ octets; place = 1 } in
     let size : length (type ∷ octets) ≤ 268 = grind (arith, nat_tests) in

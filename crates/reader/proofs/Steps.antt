@@ -1,5 +1,5 @@
 -- What the steps of reading tell where they succeed.
-use Rattle.std.proofs.Common.{◌≡◌, ℕ, zero, suc, ◌+◌, ◌-◌, ◌<◌, ◌≤◌, Bool, true, false, cond, eqb, List, length, get_or, take, drop, Ok, Err, Option, Result, sym, refl, ap, ◌∙◌, arith}
+use Rattle.std.proofs.Common.{◌≡◌, ℕ, zero, suc, ◌+◌, ◌-◌, ◌<◌, ◌≤◌, Bool, cond, eqb, List, length, get_or, take, drop, Ok, Err, Option, Result, sym, refl, ap, ◌∙◌, arith}
 use Rattle.std.proofs.lemmas.Bool.{ne_eqb}
 use Rattle.std.proofs.lemmas.Bool.Decides.{nat_tests}
 use Rattle.message.specs.declared.fault.Fault.{Fault}
@@ -7,10 +7,6 @@ use Rattle.message.specs.declared.fault.Refusal.{Refusal}
 use Rattle.message.specs.declared.fault.Refusal.TheVariants.{OptionalPart}
 use Rattle.reader.specs.Window.{Window, then, lift}
 use Rattle.reader.specs.Reading.{octet, ends, counted, credit_after, parameters, any_parameters}
-
--- a refusal is no answer
-pub no_answer : {A : Type 0} {fault : Fault} {x : A} → ◌≡◌ {A = Result A Fault} (Err fault) (Ok x) → ⊥
-no_answer e = let z : ◌≡◌ {A = ℕ} 0 1 = cc in omega arith
 
 -- the window, so many octets further on
 abbrev pub moved : Window → ℕ → Window
@@ -34,15 +30,11 @@ then_same (Err fault) f g h = refl
 
 pub lift_gives : {A : Type 0} (r : Result A Fault) (w : Window) (p : A × Window) → lift r w ≡ Ok p → p.1 ≡ w
 lift_gives (Ok x) w p e = let same : p ≡ (x, w) = cc in ap (λ q. q.1) same
-lift_gives (Err fault) w p e = absurd (no_answer e)
+lift_gives (Err fault) w p e = cc
 
 pub lift_value : {A : Type 0} (r : Result A Fault) (w : Window) (p : A × Window) → lift r w ≡ Ok p → r ≡ Ok p.0
 lift_value (Ok x) w p e = let same : (x, w) ≡ p = cc in ap (λ q. Ok q.0) same
-lift_value (Err fault) w p e = absurd (no_answer e)
-
-cond_same : {X : Type 0} (b : Bool) (x y z : X) → y ≡ z → cond b x y ≡ cond b x z
-cond_same true x y z e = refl
-cond_same false x y z e = e
+lift_value (Err fault) w p e = cc
 
 -- a deeper look changes nothing where the depth is above the number of octets left
 pub deeper : (depth : ℕ) (due : Bool) (found : Option ℕ) (w : Window) → length w.octets - w.place < depth →
@@ -50,7 +42,7 @@ pub deeper : (depth : ℕ) (due : Bool) (found : Option ℕ) (w : Window) → le
 unfolding parameters
 deeper zero due found w h = absurd (omega arith)
 deeper (suc depth) due found w h =
-    then_same (octet OptionalPart w) _ _ (λ p e. cond_same (eqb p.0 0) (then (ends OptionalPart p.1) (λ u. Ok (found, u.1))) _ _
+    then_same (octet OptionalPart w) _ _ (λ p e. ap (cond (eqb p.0 0) (then (ends OptionalPart p.1) (λ u. Ok (found, u.1))))
     (then_same (counted OptionalPart w.place p.1) _ _ (λ q f.
     then_same (lift (credit_after due found w.place p.0 q.0) q.1) _ _ (λ k e2.
     let a = octet_gives OptionalPart w p e in
