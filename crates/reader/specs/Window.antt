@@ -2,7 +2,6 @@
 use Rattle.std.specs.Prelude.{ℕ, Bool, cond, List, Ok, Err, Result}
 use Rattle.message.specs.declared.fault.Fault.{Fault}
 use Rattle.message.specs.declared.fault.Refusal.{Refusal}
-use Rattle.reader.specs.declared.Reader.{Reader}
 
 -- all octets of a message, and the place reached in them
 pub record Window : Type 0 where
@@ -46,14 +45,10 @@ lift result w = then result (λ x. Ok (x, w))
 abbrev pub here : Read ℕ
 here w = Ok (w.place, w)
 
--- the window that a reader of the code stands for
-abbrev pub window : Reader → Window
-window reader = record { octets = reader.octets.now; place = reader.at }
-
 -- what a method of the reader answered, and where it left the reader: `of` says what its value stands for
-abbrev pub outcome : {X A : Type 0} → (X → A) → Result X Fault → Reader → Result (A × Window) Fault
-outcome of (Ok x) reader = Ok (of x, window reader)
-outcome of (Err fault) reader = Err fault
+abbrev pub outcome : {X A : Type 0} → (X → A) → Result X Fault → Window → Result (A × Window) Fault
+outcome of (Ok x) w = Ok (of x, w)
+outcome of (Err fault) w = Err fault
 
 -- a value that says nothing
 abbrev pub nothing : Unit {0} → Unit {0}

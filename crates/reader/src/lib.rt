@@ -3,11 +3,12 @@
 
 ghost use Rattle.std.specs.Prelude.{◌≡◌, ◌+◌, ◌<◌};
 ghost use Rattle.message.specs.Meaning.{error_number, number_of_class};
-ghost use Rattle.reader.specs.Window.{window, outcome, nothing};
+ghost use Rattle.reader.specs.Window.{Window, outcome, nothing};
 ghost use Rattle.reader.specs.Reading as reading;
 
 use message::content::{Cause, ClassNumber, Credit, ErrorCause, Reference, SequenceNumber};
 use message::fault::{Fault, Refusal};
+use std::marker::Model;
 
 mod parts;
 mod whole;
@@ -21,6 +22,12 @@ struct Reader<'a> {
     at: usize,
 }
 
+impl<'a> Model for Reader<'a> {
+    ghost Value = { Window };
+
+    ghost view = { λ reader. record { octets = reader.octets.now; place = reader.at } };
+}
+
 // A pointer: the place where it stands, and the distance to the first octet of its part.
 #[derive(Clone, Copy)]
 struct Pointer {
@@ -32,7 +39,7 @@ impl<'a> Reader<'a> {
     // The message has its type, fixed fields and pointers, which are `size` octets.
     #[tactic(auto, unfolding(crate::specs::Reading::header))]
     fn header(&mut self, size: usize) -> Result<(), Fault>
-        ensures { outcome nothing result self.new ≡ reading.header size (window self.old) }
+        ensures { outcome nothing result self.new ≡ reading.header size self.old }
     {
         if self.octets.len() < size {
             return Err(Refusal::CutShort.at(self.octets.len()));
@@ -43,7 +50,7 @@ impl<'a> Reader<'a> {
     // The next octet, or a refusal at the message's length.
     #[tactic(auto, unfolding(crate::specs::Reading::octet))]
     fn octet(&mut self, missing: Refusal) -> Result<u8, Fault>
-        ensures { outcome (λ x. x) result self.new ≡ reading.octet missing (window self.old) }
+        ensures { outcome (λ x. x) result self.new ≡ reading.octet missing self.old }
     {
         let Some(octet) = self.octets.get(self.at) else {
             return Err(missing.at(self.octets.len()));
@@ -55,7 +62,7 @@ impl<'a> Reader<'a> {
     // The message ends here, or a refusal at the first octet left.
     #[tactic(auto, unfolding(crate::specs::Reading::ends))]
     fn ends(&mut self, left: Refusal) -> Result<(), Fault>
-        ensures { outcome nothing result self.new ≡ reading.ends left (window self.old) }
+        ensures { outcome nothing result self.new ≡ reading.ends left self.old }
     {
         if self.at < self.octets.len() {
             return Err(left.at(self.at));
@@ -66,7 +73,7 @@ impl<'a> Reader<'a> {
     // A length of at least 1 and as many octets, or a refusal at `place`.
     #[tactic(auto, unfolding(crate::specs::Reading::counted))]
     fn counted(&mut self, wrong: Refusal, place: usize) -> Result<&'a [u8], Fault>
-        ensures { outcome (λ x. x.now) result self.new ≡ reading.counted wrong place (window self.old) }
+        ensures { outcome (λ x. x.now) result self.new ≡ reading.counted wrong place self.old }
     {
         let octets = self.octets;
         let Some(size) = octets.get(self.at) else {
@@ -83,7 +90,7 @@ impl<'a> Reader<'a> {
 
     #[tactic(auto, unfolding(crate::specs::Reading::reference))]
     fn reference(&mut self) -> Result<Reference, Fault>
-        ensures { outcome (λ x. x.0) result self.new ≡ reading.reference (window self.old) }
+        ensures { outcome (λ x. x.0) result self.new ≡ reading.reference self.old }
     {
         let place = self.at;
         let low = self.octet(Refusal::CutShort)?;
@@ -95,7 +102,7 @@ impl<'a> Reader<'a> {
     // A field of one octet, with a value from `low` to `high`.
     #[tactic(auto, unfolding(crate::specs::Reading::field))]
     fn field(&mut self, low: u8, high: u8) -> Result<u8, Fault>
-        ensures { outcome (λ x. x) result self.new ≡ reading.field low high (window self.old) }
+        ensures { outcome (λ x. x) result self.new ≡ reading.field low high self.old }
     {
         let place = self.at;
         let value = self.octet(Refusal::CutShort)?;
@@ -108,7 +115,7 @@ impl<'a> Reader<'a> {
 
     #[tactic(auto, unfolding(crate::specs::Reading::field))]
     fn class(&mut self) -> Result<ClassNumber, Fault>
-        ensures { outcome number_of_class result self.new ≡ reading.field 2 3 (window self.old) }
+        ensures { outcome number_of_class result self.new ≡ reading.field 2 3 self.old }
     {
         let place = self.at;
         let octet = self.octet(Refusal::CutShort)?;
@@ -117,7 +124,7 @@ impl<'a> Reader<'a> {
 
     // The cause in CREF, RLSD and RSR.
     fn cause(&mut self) -> Result<Cause, Fault>
-        ensures { outcome (λ x. x.0) result self.new ≡ reading.field 0 15 (window self.old) }
+        ensures { outcome (λ x. x.0) result self.new ≡ reading.field 0 15 self.old }
     {
         self.field(0, 15).map(Cause)
     }
@@ -125,7 +132,7 @@ impl<'a> Reader<'a> {
     // The cause in ERR.
     #[tactic(auto, unfolding(crate::specs::Reading::field))]
     fn error_cause(&mut self) -> Result<ErrorCause, Fault>
-        ensures { outcome error_number result self.new ≡ reading.field 0 4 (window self.old) }
+        ensures { outcome error_number result self.new ≡ reading.field 0 4 self.old }
     {
         let place = self.at;
         let octet = self.octet(Refusal::CutShort)?;
@@ -133,7 +140,7 @@ impl<'a> Reader<'a> {
     }
 
     fn credit(&mut self) -> Result<Credit, Fault>
-        ensures { outcome (λ x. x.0) result self.new ≡ reading.field 1 127 (window self.old) }
+        ensures { outcome (λ x. x.0) result self.new ≡ reading.field 1 127 self.old }
     {
         self.field(1, 127).map(Credit)
     }
@@ -141,7 +148,7 @@ impl<'a> Reader<'a> {
     // A sequence number by itself in an octet: twice its value.
     #[tactic(auto, unfolding(crate::specs::Reading::sequence_number))]
     fn sequence_number(&mut self) -> Result<SequenceNumber, Fault>
-        ensures { outcome (λ x. x.0) result self.new ≡ reading.sequence_number (window self.old) }
+        ensures { outcome (λ x. x.0) result self.new ≡ reading.sequence_number self.old }
     {
         let place = self.at;
         let twice = self.octet(Refusal::CutShort)?;
@@ -153,7 +160,7 @@ impl<'a> Reader<'a> {
 
     #[tactic(auto, unfolding(crate::specs::Reading::pointer))]
     fn pointer(&mut self) -> Result<Pointer, Fault>
-        ensures { outcome (λ x. (x.place, x.distance)) result self.new ≡ reading.pointer (window self.old) }
+        ensures { outcome (λ x. (x.place, x.distance)) result self.new ≡ reading.pointer self.old }
     {
         let place = self.at;
         let distance = self.octet(Refusal::CutShort)?;

@@ -1,7 +1,7 @@
 // The variable part and the optional part of a message.
 ghost use Rattle.std.specs.Prelude.{◌≡◌, ◌<◌};
 ghost use Rattle.message.specs.Meaning.{classes, number_of_class};
-ghost use Rattle.reader.specs.Window.{window, outcome, nothing};
+ghost use Rattle.reader.specs.Window.{outcome, nothing};
 ghost use Rattle.reader.specs.Reading as reading;
 
 use crate::{Pointer, Reader};
@@ -12,7 +12,7 @@ use message::kind;
 impl<'a> Reader<'a> {
     #[tactic(auto, unfolding(crate::specs::Reading::points_here))]
     pub(crate) fn points_here(&mut self, pointer: Pointer) -> Result<(), Fault>
-        ensures { outcome nothing result self.new ≡ reading.points_here (pointer.place, pointer.distance) (window self.old) }
+        ensures { outcome nothing result self.new ≡ reading.points_here (pointer.place, pointer.distance) self.old }
     {
         if self.at.checked_sub(pointer.place) == Some(usize::from(pointer.distance)) {
             Ok(())
@@ -23,7 +23,7 @@ impl<'a> Reader<'a> {
 
     #[tactic(auto, unfolding(crate::specs::Reading::variable))]
     pub(crate) fn variable(&mut self) -> Result<&'a [u8], Fault>
-        ensures { outcome (λ x. x.now) result self.new ≡ reading.variable (window self.old) }
+        ensures { outcome (λ x. x.now) result self.new ≡ reading.variable self.old }
     {
         let place = self.at;
         self.counted(Refusal::VariablePart, place)
@@ -32,7 +32,7 @@ impl<'a> Reader<'a> {
     // 42 (hexadecimal) and a subsystem number that is not 0.
     #[tactic(auto, unfolding(crate::specs::Reading::called_address))]
     pub(crate) fn called_address(&mut self) -> Result<Subsystem, Fault>
-        ensures { outcome (λ x. x.0) result self.new ≡ reading.called_address (window self.old) }
+        ensures { outcome (λ x. x.0) result self.new ≡ reading.called_address self.old }
     {
         let place = self.at;
         match self.variable()? {
@@ -44,7 +44,7 @@ impl<'a> Reader<'a> {
     // V and a segment's data straight behind it, which end the message.
     #[tactic(auto, unfolding(crate::specs::Reading::segment))]
     pub(crate) fn segment(&mut self) -> Result<&'a [u8], Fault>
-        ensures { outcome (λ x. x.now) result self.new ≡ reading.segment (window self.old) }
+        ensures { outcome (λ x. x.now) result self.new ≡ reading.segment self.old }
     {
         let pointer = self.pointer()?;
         self.points_here(pointer)?;
@@ -56,7 +56,7 @@ impl<'a> Reader<'a> {
     // V, O and the called address straight behind them: the subsystem, and O.
     #[tactic(auto, unfolding(crate::specs::Reading::called_party))]
     pub(crate) fn called_party(&mut self) -> Result<(Subsystem, Pointer), Fault>
-        ensures { outcome (λ x. (x.0.0, (x.1.place, x.1.distance))) result self.new ≡ reading.called_party (window self.old) }
+        ensures { outcome (λ x. (x.0.0, (x.1.place, x.1.distance))) result self.new ≡ reading.called_party self.old }
     {
         let variable = self.pointer()?;
         let optional = self.pointer()?;
@@ -68,7 +68,7 @@ impl<'a> Reader<'a> {
     // What O points to: nothing where it is 00, otherwise an optional part. Answers the credit found in it.
     #[tactic(auto, unfolding(crate::specs::Reading::optional_part))]
     pub(crate) fn optional_part(&mut self, due: bool, pointer: Pointer) -> Result<Option<u8>, Fault>
-        ensures { outcome (λ x. x) result self.new ≡ reading.optional_part due (pointer.place, pointer.distance) (window self.old) }
+        ensures { outcome (λ x. x) result self.new ≡ reading.optional_part due (pointer.place, pointer.distance) self.old }
     {
         if pointer.distance == 0 {
             self.ends(Refusal::VariablePart)?;
@@ -81,7 +81,7 @@ impl<'a> Reader<'a> {
     // An optional part: the octet 00, or a parameter followed by an optional part.
     #[tactic(auto, unfolding(crate::specs::Reading::parameters))]
     fn parameters(&mut self, due: bool, found: Option<u8>) -> Result<Option<u8>, Fault>
-        ensures { outcome (λ x. x) result self.new ≡ reading.any_parameters due found (window self.old) }
+        ensures { outcome (λ x. x) result self.new ≡ reading.any_parameters due found self.old }
     {
         let named = self.at;
         let name = self.octet(Refusal::OptionalPart)?;

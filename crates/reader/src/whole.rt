@@ -4,7 +4,7 @@ ghost use Rattle.message.specs.Content.{Content, within};
 ghost use Rattle.message.specs.Layout.{IsMessage};
 ghost use Rattle.message.specs.Meaning.{meaning, means};
 ghost use Rattle.message.specs.Types.{type_octet};
-ghost use Rattle.reader.specs.Window.{window, outcome};
+ghost use Rattle.reader.specs.Window.{outcome};
 ghost use Rattle.reader.specs.Reading as reading;
 
 use crate::Reader;
@@ -29,7 +29,7 @@ pub fn read<'a>(octets: &'a [u8]) -> Result<Message<'a>, Fault>
 
 impl<'a> Reader<'a> {
     fn message(&mut self, kind: MessageType) -> Result<Message<'a>, Fault>
-        ensures { means result ≡ reading.value (reading.message_of (type_octet kind) (window self.old)) }
+        ensures { means result ≡ reading.value (reading.message_of (type_octet kind) self.old) }
     {
         match kind {
             MessageType::ConnectionRequest => self.connection_request(),
@@ -47,7 +47,7 @@ impl<'a> Reader<'a> {
     }
 
     fn connection_request(&mut self) -> Result<Message<'a>, Fault>
-        ensures { means result ≡ reading.value (reading.connection_request (window self.old)) }
+        ensures { means result ≡ reading.value (reading.connection_request self.old) }
     {
         self.header(7)?;
         let source = self.reference()?;
@@ -64,7 +64,7 @@ impl<'a> Reader<'a> {
     }
 
     fn connection_confirm(&mut self) -> Result<Message<'a>, Fault>
-        ensures { means result ≡ reading.value (reading.connection_confirm (window self.old)) }
+        ensures { means result ≡ reading.value (reading.connection_confirm self.old) }
     {
         self.header(9)?;
         let destination = self.reference()?;
@@ -82,7 +82,7 @@ impl<'a> Reader<'a> {
     }
 
     fn connection_refused(&mut self) -> Result<Message<'a>, Fault>
-        ensures { means result ≡ reading.value (reading.connection_refused (window self.old)) }
+        ensures { means result ≡ reading.value (reading.connection_refused self.old) }
     {
         self.header(6)?;
         let destination = self.reference()?;
@@ -93,7 +93,7 @@ impl<'a> Reader<'a> {
     }
 
     fn released(&mut self) -> Result<Message<'a>, Fault>
-        ensures { means result ≡ reading.value (reading.released (window self.old)) }
+        ensures { means result ≡ reading.value (reading.released self.old) }
     {
         self.header(9)?;
         let destination = self.reference()?;
@@ -111,7 +111,7 @@ impl<'a> Reader<'a> {
     // RLC and RSC: a destination and a source.
     #[tactic(auto, unfolding(crate::specs::Reading::two_references))]
     fn two_references(&mut self) -> Result<(Reference, Reference), Fault>
-        ensures { outcome (λ x. (x.0.0, x.1.0)) result self.new ≡ reading.two_references (window self.old) }
+        ensures { outcome (λ x. (x.0.0, x.1.0)) result self.new ≡ reading.two_references self.old }
     {
         self.header(7)?;
         let destination = self.reference()?;
@@ -121,7 +121,7 @@ impl<'a> Reader<'a> {
     }
 
     fn release_complete(&mut self) -> Result<Message<'a>, Fault>
-        ensures { means result ≡ reading.value (reading.release_complete (window self.old)) }
+        ensures { means result ≡ reading.value (reading.release_complete self.old) }
     {
         let (destination, source) = self.two_references()?;
         Ok(Message::ReleaseComplete {
@@ -131,7 +131,7 @@ impl<'a> Reader<'a> {
     }
 
     fn data_form_1(&mut self) -> Result<Message<'a>, Fault>
-        ensures { means result ≡ reading.value (reading.data_form_1 (window self.old)) }
+        ensures { means result ≡ reading.value (reading.data_form_1 self.old) }
     {
         self.header(6)?;
         let destination = self.reference()?;
@@ -145,7 +145,7 @@ impl<'a> Reader<'a> {
     }
 
     fn data_form_2(&mut self) -> Result<Message<'a>, Fault>
-        ensures { means result ≡ reading.value (reading.data_form_2 (window self.old)) }
+        ensures { means result ≡ reading.value (reading.data_form_2 self.old) }
     {
         self.header(7)?;
         let destination = self.reference()?;
@@ -163,7 +163,7 @@ impl<'a> Reader<'a> {
     }
 
     fn data_acknowledgement(&mut self) -> Result<Message<'a>, Fault>
-        ensures { means result ≡ reading.value (reading.data_acknowledgement (window self.old)) }
+        ensures { means result ≡ reading.value (reading.data_acknowledgement self.old) }
     {
         self.header(6)?;
         let destination = self.reference()?;
@@ -178,7 +178,7 @@ impl<'a> Reader<'a> {
     }
 
     fn reset_request(&mut self) -> Result<Message<'a>, Fault>
-        ensures { means result ≡ reading.value (reading.reset_request (window self.old)) }
+        ensures { means result ≡ reading.value (reading.reset_request self.old) }
     {
         self.header(8)?;
         let destination = self.reference()?;
@@ -193,7 +193,7 @@ impl<'a> Reader<'a> {
     }
 
     fn reset_confirm(&mut self) -> Result<Message<'a>, Fault>
-        ensures { means result ≡ reading.value (reading.reset_confirm (window self.old)) }
+        ensures { means result ≡ reading.value (reading.reset_confirm self.old) }
     {
         let (destination, source) = self.two_references()?;
         Ok(Message::ResetConfirm {
@@ -203,7 +203,7 @@ impl<'a> Reader<'a> {
     }
 
     fn error(&mut self) -> Result<Message<'a>, Fault>
-        ensures { means result ≡ reading.value (reading.error (window self.old)) }
+        ensures { means result ≡ reading.value (reading.error self.old) }
     {
         self.header(5)?;
         let destination = self.reference()?;
