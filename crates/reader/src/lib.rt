@@ -129,7 +129,8 @@ impl<'a> Reader<'a> {
         self.field(0, 15).map(Cause)
     }
 
-    // The cause in ERR.
+    // The cause in ERR. Like `class` but for the type: what one function for both could promise is the conversion alone,
+    // and its callers would have to show that this is the reading step.
     #[tactic(auto, unfolding(crate::specs::Reading::field))]
     fn error_cause(&mut self) -> Result<ErrorCause, Fault>
         ensures { outcome error_number result self.new ≡ reading.field 0 4 self.old }

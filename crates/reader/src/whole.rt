@@ -36,12 +36,24 @@ impl<'a> Reader<'a> {
             MessageType::ConnectionConfirm => self.connection_confirm(),
             MessageType::ConnectionRefused => self.connection_refused(),
             MessageType::Released => self.released(),
-            MessageType::ReleaseComplete => self.release_complete(),
+            MessageType::ReleaseComplete => {
+                let (destination, source) = self.two_references()?;
+                Ok(Message::ReleaseComplete {
+                    destination,
+                    source,
+                })
+            }
             MessageType::DataForm1 => self.data_form_1(),
             MessageType::DataForm2 => self.data_form_2(),
             MessageType::DataAcknowledgement => self.data_acknowledgement(),
             MessageType::ResetRequest => self.reset_request(),
-            MessageType::ResetConfirm => self.reset_confirm(),
+            MessageType::ResetConfirm => {
+                let (destination, source) = self.two_references()?;
+                Ok(Message::ResetConfirm {
+                    destination,
+                    source,
+                })
+            }
             MessageType::Error => self.error(),
         }
     }
@@ -120,16 +132,6 @@ impl<'a> Reader<'a> {
         Ok((destination, source))
     }
 
-    fn release_complete(&mut self) -> Result<Message<'a>, Fault>
-        ensures { means result ≡ reading.value (reading.release_complete self.old) }
-    {
-        let (destination, source) = self.two_references()?;
-        Ok(Message::ReleaseComplete {
-            destination,
-            source,
-        })
-    }
-
     fn data_form_1(&mut self) -> Result<Message<'a>, Fault>
         ensures { means result ≡ reading.value (reading.data_form_1 self.old) }
     {
@@ -189,16 +191,6 @@ impl<'a> Reader<'a> {
             destination,
             source,
             cause,
-        })
-    }
-
-    fn reset_confirm(&mut self) -> Result<Message<'a>, Fault>
-        ensures { means result ≡ reading.value (reading.reset_confirm self.old) }
-    {
-        let (destination, source) = self.two_references()?;
-        Ok(Message::ResetConfirm {
-            destination,
-            source,
         })
     }
 
