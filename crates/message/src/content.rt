@@ -51,6 +51,7 @@ pub enum ProtocolClass {
     Class3 { credit: Credit },
 }
 
+// Destination and source are two fields, as in the layouts: a struct for the pair would make no message plainer.
 #[derive(Clone, Copy, PartialEq, Eq, Debug)]
 pub enum Message<'a> {
     // CR
@@ -237,6 +238,7 @@ impl TryFrom<u8> for ClassNumber {
     }
 }
 
+// The limits of single fields, a line each: a trait with limits as constants would take more lines at each type.
 impl Reference {
     fn fits(self) -> bool
         ensures { result ≡ reference_fits self.0 }

@@ -66,6 +66,7 @@ impl<'a> Reader<'a> {
     }
 
     // What O points to: nothing where it is 00, otherwise an optional part. Answers the credit found in it.
+    // `due`: whether a credit is due, which is a truth value; an enum would name it yes and no.
     #[tactic(auto, unfolding(crate::specs::Reading::optional_part))]
     pub(crate) fn optional_part(&mut self, due: bool, pointer: Pointer) -> Result<Option<u8>, Fault>
         ensures { outcome (λ x. x) result self.new ≡ reading.optional_part due (pointer.place, pointer.distance) self.old }

@@ -28,6 +28,7 @@ pub fn read<'a>(octets: &'a [u8]) -> Result<Message<'a>, Fault>
 }
 
 impl<'a> Reader<'a> {
+    // A match, which the compiler sees to be whole: a table of functions by type would not be.
     fn message(&mut self, kind: MessageType) -> Result<Message<'a>, Fault>
         ensures { means result ≡ reading.value (reading.message_of (type_octet kind) self.old) }
     {

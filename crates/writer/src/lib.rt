@@ -43,7 +43,7 @@ pub fn write(message: Message<'_>, buffer: &mut [u8]) -> Result<usize, Fault>
     Ok(with_data(buffer, front.as_slice(), data))
 }
 
-// A message as the octets in front of its data, and the data.
+// A message as the octets in front of its data, and the data. A match, and not a table of functions, for it has to be whole.
 fn parts<'a>(message: Message<'a>) -> (Front, &'a [u8])
     requires { content.within (meaning message) ≡ true }
     ensures { result.0.items ++ result.1.now ≡ layout (meaning message.entry) }
@@ -113,7 +113,7 @@ fn connection_request(source: Reference, class: ProtocolClass, subsystem: Subsys
 {
     let [s0, s1, s2] = <[u8; 3]>::from(source);
     match class.credit() {
-        None => front(&[
+        None => front_of(&[
             MessageType::ConnectionRequest as u8,
             s0,
             s1,
@@ -125,7 +125,7 @@ fn connection_request(source: Reference, class: ProtocolClass, subsystem: Subsys
             kind::ADDRESS_BY_SUBSYSTEM,
             subsystem.0,
         ]),
-        Some(credit) => front(&[
+        Some(credit) => front_of(&[
             MessageType::ConnectionRequest as u8,
             s0,
             s1,
@@ -150,7 +150,7 @@ fn connection_confirm(destination: Reference, source: Reference, class: Protocol
     let [d0, d1, d2] = <[u8; 3]>::from(destination);
     let [s0, s1, s2] = <[u8; 3]>::from(source);
     match class.credit() {
-        None => front(&[
+        None => front_of(&[
             MessageType::ConnectionConfirm as u8,
             d0,
             d1,
@@ -161,7 +161,7 @@ fn connection_confirm(destination: Reference, source: Reference, class: Protocol
             ClassNumber::Two as u8,
             0,
         ]),
-        Some(credit) => front(&[
+        Some(credit) => front_of(&[
             MessageType::ConnectionConfirm as u8,
             d0,
             d1,
@@ -183,7 +183,7 @@ fn connection_refused(destination: Reference, cause: Cause) -> Front
     ensures { result.items ≡ layout (content.connection_refused destination.0 cause.0) }
 {
     let [d0, d1, d2] = <[u8; 3]>::from(destination);
-    front(&[MessageType::ConnectionRefused as u8, d0, d1, d2, cause.0, 0])
+    front_of(&[MessageType::ConnectionRefused as u8, d0, d1, d2, cause.0, 0])
 }
 
 fn released(destination: Reference, source: Reference, cause: Cause) -> Front
@@ -191,7 +191,7 @@ fn released(destination: Reference, source: Reference, cause: Cause) -> Front
 {
     let [d0, d1, d2] = <[u8; 3]>::from(destination);
     let [s0, s1, s2] = <[u8; 3]>::from(source);
-    front(&[
+    front_of(&[
         MessageType::Released as u8,
         d0,
         d1,
@@ -210,7 +210,7 @@ fn two_references(kind: MessageType, destination: Reference, source: Reference) 
 {
     let [d0, d1, d2] = <[u8; 3]>::from(destination);
     let [s0, s1, s2] = <[u8; 3]>::from(source);
-    front(&[kind as u8, d0, d1, d2, s0, s1, s2])
+    front_of(&[kind as u8, d0, d1, d2, s0, s1, s2])
 }
 
 fn data_form_1(destination: Reference, more: bool, data: &[u8]) -> Front
@@ -219,7 +219,7 @@ fn data_form_1(destination: Reference, more: bool, data: &[u8]) -> Front
 {
     let [d0, d1, d2] = <[u8; 3]>::from(destination);
     let size = data.len() as u8;
-    front(&[
+    front_of(&[
         MessageType::DataForm1 as u8,
         d0,
         d1,
@@ -244,7 +244,7 @@ fn data_form_2(
 {
     let [d0, d1, d2] = <[u8; 3]>::from(destination);
     let size = data.len() as u8;
-    front(&[
+    front_of(&[
         MessageType::DataForm2 as u8,
         d0,
         d1,
@@ -261,7 +261,7 @@ fn data_acknowledgement(destination: Reference, receive: SequenceNumber, credit:
     ensures { result.items ≡ layout (content.data_acknowledgement destination.0 receive.0 credit.0) }
 {
     let [d0, d1, d2] = <[u8; 3]>::from(destination);
-    front(&[
+    front_of(&[
         MessageType::DataAcknowledgement as u8,
         d0,
         d1,
@@ -276,7 +276,7 @@ fn reset_request(destination: Reference, source: Reference, cause: Cause) -> Fro
 {
     let [d0, d1, d2] = <[u8; 3]>::from(destination);
     let [s0, s1, s2] = <[u8; 3]>::from(source);
-    front(&[
+    front_of(&[
         MessageType::ResetRequest as u8,
         d0,
         d1,
@@ -292,10 +292,10 @@ fn error(destination: Reference, cause: ErrorCause) -> Front
     ensures { result.items ≡ layout (content.error destination.0 (error_number cause)) }
 {
     let [d0, d1, d2] = <[u8; 3]>::from(destination);
-    front(&[MessageType::Error as u8, d0, d1, d2, cause as u8])
+    front_of(&[MessageType::Error as u8, d0, d1, d2, cause as u8])
 }
 
-fn front(octets: &[u8]) -> Front
+fn front_of(octets: &[u8]) -> Front
     requires { length octets.now ≤ 14 }
     ensures { result.items ≡ octets.now }
 {
