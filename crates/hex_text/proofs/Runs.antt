@@ -8,7 +8,7 @@ use Rattle.hex_text.specs.declared.text.HexFault.TheVariants.{Nothing, NoDigit, 
 use Rattle.hex_text.specs.declared.stage.Stage.{Stage}
 use Rattle.hex_text.specs.declared.stage.Stage.TheVariants.{Start, Dash, Half, Octet, Gap}
 use Rattle.hex_text.specs.Digits.{blank, gap, digit_at, second_at}
-use Rattle.hex_text.specs.Stages.{Small, next_stage, last_stage, half, whole}
+use Rattle.hex_text.specs.Stages.{next_stage, last_stage, half, whole}
 use Rattle.hex_text.specs.Text.{before, pair, octets_from, blanks_from, text_from, octets_of, Keeps, Reads}
 
 abbrev pub Said : Type 0
@@ -167,11 +167,10 @@ none_ends Gap other = refl
 
 -- the octets so far, and what is read of the rest from a stage on, are what the whole text says
 pub record Sofar (text octets : List ℕ) (i : ℕ) (stage : Stage) : Type 0 where
-  pub small : Small stage
   pub said : onto octets (run stage (i + 1) (drop i text)) ≡ octets_of text
 
 pub starts : (text octets : List ℕ) → octets ≡ [] → Sofar text octets 0 Start
-starts text octets none = record { small = tt; said = ap (λ l. onto l (run Start 1 text)) none ∙ onto_none (run Start 1 text) ∙ run_start 1 text }
+starts text octets none = record { said = ap (λ l. onto l (run Start 1 text)) none ∙ onto_none (run Start 1 text) ∙ run_start 1 text }
 
 module _ {text front : List ℕ} {i : ℕ} {stage : Stage} (sofar : Sofar text front i stage) where
   abbrev rest : Stage → Said
@@ -180,9 +179,9 @@ module _ {text front : List ℕ} {i : ℕ} {stage : Stage} (sofar : Sofar text f
   turn : (said : Result Stage HexFault) → i < length text → said ≡ next_stage stage (get_or text i 0) (i + 1) → onto front (follow said rest) ≡ octets_of text
   turn said more is = ap (onto front) (ap (λ r. follow r rest) is ∙ sym (at_drop_more (run stage (i + 1)) text i 0 more)) ∙ sofar.said
 
-  pub goes_on : (next : Stage) → i < length text → Ok next ≡ next_stage stage (get_or text i 0) (i + 1) → Small next → (octets : List ℕ) → octets ≡ front ++ ending next → Sofar text octets (i + 1) next
-  goes_on next more is small octets pushed =
-      record { small = small; said = ap (λ l. onto l (rest next)) pushed ∙ onto_more front (ending next) (rest next) ∙ turn (Ok next) more is }
+  pub goes_on : (next : Stage) → i < length text → Ok next ≡ next_stage stage (get_or text i 0) (i + 1) → (octets : List ℕ) → octets ≡ front ++ ending next → Sofar text octets (i + 1) next
+  goes_on next more is octets pushed =
+      record { said = ap (λ l. onto l (rest next)) pushed ∙ onto_more front (ending next) (rest next) ∙ turn (Ok next) more is }
 
   pub stops : (fault : HexFault) → i < length text → Err fault ≡ next_stage stage (get_or text i 0) (i + 1) → Reads (Err fault) (octets_of text)
   stops fault more is = refuses fault text (turn (Err fault) more is)

@@ -1,8 +1,9 @@
 // Hex text, read one character after another.
-ghost use Rattle.std.specs.Prelude.{◌≡◌, ◌<◌, IfOk};
+ghost use Rattle.std.specs.Prelude.{◌≡◌};
 ghost use Rattle.hex_text.specs.Digits.{blank, gap, digit_at};
-ghost use Rattle.hex_text.specs.Stages.{next_stage, last_stage, half, Small};
+ghost use Rattle.hex_text.specs.Stages.{next_stage, last_stage, half};
 
+use crate::digit::Digit;
 use crate::text::HexFault;
 
 // What was read last.
@@ -13,7 +14,7 @@ pub enum Stage {
     // the dash that stands for no octets
     Dash,
     // the first digit of an octet, and its column
-    Half { high: u8, column: usize },
+    Half { high: Digit, column: usize },
     // the second digit of this octet
     Octet(u8),
     // blanks or colons behind an octet
@@ -23,9 +24,7 @@ pub enum Stage {
 impl Stage {
     // The stage behind one more character. Columns count from 1.
     pub(crate) fn next(self, character: u8, column: usize) -> Result<Stage, HexFault>
-        requires { Small self }
-        ensures value { result ≡ next_stage self character column }
-        ensures small { IfOk result Small }
+        ensures { result ≡ next_stage self character column }
     {
         match self {
             Stage::Start => {
@@ -51,8 +50,8 @@ impl Stage {
                 if is_gap(character) {
                     return Err(HexFault::LoneDigit { column: first });
                 }
-                let low = digit(character, column)?;
-                Ok(Stage::Octet(16 * high + low))
+                let low = Digit::read(character, column)?;
+                Ok(Stage::Octet(high.octet(low)))
             }
             Stage::Octet(_) | Stage::Gap => {
                 if is_gap(character) {
@@ -88,22 +87,10 @@ fn is_gap(character: u8) -> bool
     is_blank(character) || character == b':'
 }
 
-fn digit(character: u8, column: usize) -> Result<u8, HexFault>
-    ensures { result ≡ digit_at column character }
-{
-    match character {
-        b'0'..=b'9' => Ok(character - b'0'),
-        b'A'..=b'F' => Ok(character - b'A' + 10),
-        b'a'..=b'f' => Ok(character - b'a' + 10),
-        _ => Err(HexFault::NoDigit { column }),
-    }
-}
-
 // The stage behind an octet's first digit.
 fn first_digit(character: u8, column: usize) -> Result<Stage, HexFault>
-    ensures value { result ≡ half column (digit_at column character) }
-    ensures small { IfOk result Small }
+    ensures { result ≡ half column (digit_at column character) }
 {
-    let high = digit(character, column)?;
+    let high = Digit::read(character, column)?;
     Ok(Stage::Half { high, column })
 }

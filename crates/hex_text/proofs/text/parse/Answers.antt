@@ -14,18 +14,18 @@ pub returns-in_err-stage-clause-reads : goal.returns-in_err-stage-clause-reads
 returns-in_err-stage-clause-reads c =
     let p = err_from_is_err_and c.from_residual.result c.from_residual.ensures.1 in
     let read = ap (λ t. next_stage c.loop-place.stage (get_or t c.loop-place.place 0) (c.loop-place.place + 1)) c.as_bytes-character-items.ensures.value in
-    rw (p.1, p.2) (stops c.loop-place.invariant c.in_err-stage.field-0.0 (omega arith) (c.in_err-stage.ensures.value ∙ read))
+    rw (p.1, p.2) (stops c.loop-place.invariant c.in_err-stage.field-0.0 (omega arith) (c.in_err-stage.ensures ∙ read))
 
 pub returns-in_err-push-clause-reads : goal.returns-in_err-push-clause-reads
 returns-in_err-push-clause-reads c =
     let p = err_from_is_err_and c.from_residual-in_err-push.result c.from_residual-in_err-push.ensures.1 in
     let read = ap (λ t. next_stage c.loop-place.stage (get_or t c.loop-place.place 0) (c.loop-place.place + 1)) c.as_bytes-character-items.ensures.value in
-    rw (p.1, p.2) (keeps c.loop-place.invariant c.in-Octet.octet (omega arith) (ap Ok (sym c.in-Octet.is) ∙ (c.in_ok-stage.ensures.value ∙ read)))
+    rw (p.1, p.2) (keeps c.loop-place.invariant c.in-Octet.octet (omega arith) (ap Ok (sym c.in-Octet.is) ∙ (c.in_ok-stage.ensures ∙ read)))
 
 pub loop-place-preserved : goal.loop-place-preserved
 loop-place-preserved c =
     let read = ap (λ t. next_stage c.loop-place.stage (get_or t c.loop-place.place 0) (c.loop-place.place + 1)) c.as_bytes-character-items.ensures.value in
-    let next = goes_on c.loop-place.invariant c.in_ok-stage.stage (omega arith) (c.in_ok-stage.ensures.value ∙ read) c.in_ok-stage.ensures.small in
+    let next = goes_on c.loop-place.invariant c.in_ok-stage.stage (omega arith) (c.in_ok-stage.ensures ∙ read) in
     elim c.match-stage.branch [
       | in-Octet+in_ok-push w ↦
           let pushed = chosen _ _ _ _ w.push.ensures.items (ap is_ok w.in_ok-push.was) in

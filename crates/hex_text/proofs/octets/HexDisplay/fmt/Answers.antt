@@ -1,5 +1,5 @@
 -- Octets are written in order, two digits each.
-use Rattle.std.proofs.Common.{true, get_or, is_ok, ap, arith}
+use Rattle.std.proofs.Common.{◌<◌, get_or, is_ok, ap, arith}
 use Rattle.std.proofs.lemmas.Fmt.{hex_byte}
 use Rattle.std.proofs.lemmas.Grind.{put_two}
 use Rattle.hex_text.proofs.Writing.{capitals_more}
@@ -9,5 +9,6 @@ pub loop-octet-preserved : goal.loop-octet-preserved
 loop-octet-preserved g c = λ plain.
     let octets = c.args.self.now.0.now in
     let before = c.loop-octet.invariant plain in
-    let writes = rw (c.laid_out.ensures, c.in_radix.ensures, hex_byte true (get_or octets c.loop-octet.octet-index 0) (omega arith)) at c.write.ensures.writes in
+    let small : get_or octets c.loop-octet.octet-index 0 < 256 = omega arith in
+    let writes = rw (c.laid_out.ensures, c.in_radix.ensures, hex_byte) at c.write.ensures.writes in
     put_two g.W.Write.write_str_gives _ _ _ _ _ _ before (writes before.plain (ap is_ok c.in_ok-write.was)) (capitals_more octets c.loop-octet.octet-index (omega arith))
