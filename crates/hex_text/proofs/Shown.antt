@@ -25,7 +25,7 @@ from_shown n (octet ∷ octets) small =
     let low : octet % 16 < 16 = omega arith in
     let value : 16 * (octet / 16) + octet % 16 ≡ octet = omega arith in
     let others = from_shown (n + 2) octets (All-tail (λ o. o < 256) octet octets small) in
-    rw (not_gap, digit_read, not_gap, digit_read, others, value)
+    simp (not_gap, digit_read, others, value)
 
 -- a text whose first character is no blank, dash or colon begins with an octet
 begins : (c : ℕ) (cs : List ℕ) → gap c ≡ false → eqb c 45 ≡ false → octets_of (c ∷ cs) ≡ octets_from 1 (c ∷ cs)

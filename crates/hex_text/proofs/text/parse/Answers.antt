@@ -1,8 +1,8 @@
 -- `parse` reads what the text says.
-use Rattle.std.proofs.Common.{◌++◌, is_ok, Ok, vec_items, sym, ap, ◌∙◌, append-nil, arith}
+use Rattle.std.proofs.Common.{is_ok, Ok, vec_items, sym, ap, ◌∙◌, arith}
 use Rattle.std.proofs.ResultArms.{chosen}
 use Rattle.std.proofs.lemmas.Result.{err_from_is_err_and}
-use Rattle.hex_text.proofs.Runs.{ending, none_ends, goes_on, stops, keeps}
+use Rattle.hex_text.proofs.Runs.{goes_on, pushes, keeps, stops}
 use Rattle.hex_text.proofs.text.parse.Goals as goal
 use Rattle.hex_text.proofs.text.parse.Goals.{in-Octet+in_ok-push, in_default}
 
@@ -18,11 +18,12 @@ returns-in_err-push-clause-reads c =
 
 pub loop-place-preserved : goal.loop-place-preserved
 loop-place-preserved c =
-    let next = goes_on c.loop-place.invariant c.as_bytes-character-items.ensures.value (omega arith) c.in_ok-stage.stage c.match-stage.stage (vec_items c.match-stage.octets) c.in_ok-stage.ensures in
     elim c.match-stage.branch [
       | in-Octet+in_ok-push w ↦
           let pushed = chosen _ _ _ _ w.push.ensures.items (ap is_ok w.in_ok-push.was) in
-          next (w.stage-is ∙ sym w.in-Octet.is) (ap vec_items w.octets-is ∙ pushed ∙ ap (λ s. vec_items c.loop-place.octets ++ ending s) (sym w.in-Octet.is))
+          rw (w.stage-is, ap vec_items w.octets-is ∙ pushed)
+          (pushes c.loop-place.invariant c.as_bytes-character-items.ensures.value (omega arith) _ (ap Ok (sym w.in-Octet.is) ∙ c.in_ok-stage.ensures))
       | in_default w ↦
-          next w.stage-is (ap vec_items w.octets-is ∙ sym (append-nil _) ∙ ap (λ l. vec_items c.loop-place.octets ++ l) (sym (none_ends _ w.in_default.not-Octet)))
+          rw (w.stage-is, w.octets-is)
+          (goes_on c.loop-place.invariant c.as_bytes-character-items.ensures.value (omega arith) _ w.in_default.not-Octet c.in_ok-stage.ensures)
     ]
