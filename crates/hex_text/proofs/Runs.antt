@@ -28,16 +28,18 @@ behind (Half high m) n (c ∷ cs) = pair (Ok high) (second_at m n c) (octets_fro
 behind (Octet octet) n cs = octets_from n cs
 behind Gap n cs = octets_from n cs
 
--- the same with the octet that ends at the stage
+-- the same with the octet that ends at the stage, or the fault that came in place of one
 abbrev pub from : Result Stage HexFault → ℕ → List ℕ → Said
 from (Ok (Octet octet)) n cs = before octet (octets_from n cs)
 from (Ok stage) n cs = behind stage n cs
 from (Err fault) n cs = Err fault
 
-from_cond : (b : Bool) (x y : Said) (r s : Result Stage HexFault) (n : ℕ) (cs : List ℕ) → x ≡ from r n cs → (b ≡ false → y ≡ from s n cs) → cond b x y ≡ from (cond b r s) n cs
-from_cond true x y r s n cs p q = p
-from_cond false x y r s n cs p q = q refl
+-- a choice goes on to the stages
+from_cond : (b : Bool) {x y : Said} (r s : Result Stage HexFault) (n : ℕ) (cs : List ℕ) → x ≡ from r n cs → (b ≡ false → y ≡ from s n cs) → cond b x y ≡ from (cond b r s) n cs
+from_cond true r s n cs p q = p
+from_cond false r s n cs p q = q refl
 
+-- a first digit at the end of the text, or before the character d; and a second digit
 lone : (n : ℕ) (high : Result ℕ HexFault) → pair high (Err (LoneDigit n)) (Ok []) ≡ from (half n high) (n + 1) []
 lone n (Ok high) = refl
 lone n (Err fault) = refl
@@ -51,46 +53,47 @@ second high n cs (Ok low) = refl
 second high n cs (Err fault) = refl
 
 gap_step : (n c : ℕ) (cs : List ℕ) → octets_from n (c ∷ cs) ≡ from (next_stage Gap c n) (n + 1) cs
-gap_step n c [] = from_cond (gap c) _ _ _ _ _ _ refl (λ _. lone n (digit_at n c))
-gap_step n c (d ∷ cs) = from_cond (gap c) _ _ _ _ _ _ refl (λ _. first n d cs (digit_at n c))
+gap_step n c [] = from_cond (gap c) _ _ _ _ refl (λ _. lone n (digit_at n c))
+gap_step n c (d ∷ cs) = from_cond (gap c) _ _ _ _ refl (λ _. first n d cs (digit_at n c))
 
+-- one character
 step : (stage : Stage) (n c : ℕ) (cs : List ℕ) → behind stage n (c ∷ cs) ≡ from (next_stage stage c n) (n + 1) cs
 step Start n c cs =
-    from_cond (blank c) _ _ _ _ _ _ refl (λ unblank. from_cond (eqb c 45) _ _ _ _ _ _ refl (λ _.
+    from_cond (blank c) _ _ _ _ refl (λ unblank. from_cond (eqb c 45) _ _ _ _ refl (λ _.
     cond_both (eqb c 58) _ _ (λ x. x ≡ from (half n (digit_at n c)) (n + 1) cs)
     (λ colon. ap (λ x. from (half n (digit_at n x)) (n + 1) cs) (sym (eqb-true c 58 colon)))
     (λ other. gap_step n c cs ∙ ap (λ b. from (cond b (Ok Gap) (half n (digit_at n c))) (n + 1) cs) (or_from (blank c) (eqb c 58) unblank other))))
-step Dash n c cs = from_cond (blank c) _ _ _ _ _ _ refl (λ _. refl)
+step Dash n c cs = from_cond (blank c) _ _ _ _ refl (λ _. refl)
 step (Half high m) n c cs = second high (n + 1) cs (second_at m n c)
 step (Octet octet) n c cs = gap_step n c cs
 step Gap n c cs = gap_step n c cs
 
--- nothing but blanks is a fault of a whole text only, and not of what stands behind an octet
-abbrev pub IsSome : {X : Type 0} → Result X HexFault → Type 0
-IsSome said = said ≡ Err Nothing → ⊥
+-- it is not said that nothing but blanks is there, which is a fault of a whole text only
+abbrev pub NotBlank : {X : Type 0} → Result X HexFault → Type 0
+NotBlank said = said ≡ Err Nothing → ⊥
 
-digit_some : (n c : ℕ) → IsSome (digit_at n c)
-digit_some n c e = grind (arith, nat_tests)
+digit_not_blank : (n c : ℕ) → NotBlank (digit_at n c)
+digit_not_blank n c e = grind (arith, nat_tests)
 
-pair_some : (high low : Result ℕ HexFault) (others : Said) → IsSome high → IsSome low → IsSome others → IsSome (pair high low others)
-pair_some (Err fault) low others f g h e = f (cc)
-pair_some (Ok high) (Err fault) others f g h e = g (cc)
-pair_some (Ok high) (Ok low) (Err fault) f g h e = h e
-pair_some (Ok high) (Ok low) (Ok octets) f g h e = cc
+pair_not_blank : (high low : Result ℕ HexFault) (others : Said) → NotBlank high → NotBlank low → NotBlank others → NotBlank (pair high low others)
+pair_not_blank (Err fault) low others f g h e = f (cc)
+pair_not_blank (Ok high) (Err fault) others f g h e = g (cc)
+pair_not_blank (Ok high) (Ok low) (Err fault) f g h e = h e
+pair_not_blank (Ok high) (Ok low) (Ok octets) f g h e = cc
 
-octets_some : (n : ℕ) (cs : List ℕ) → IsSome (octets_from n cs)
-octets_some n [] = λ e. cc
-octets_some n (c ∷ []) =
-    cond_both (gap c) _ _ IsSome (λ _ e. cc) (λ _. pair_some (digit_at n c) _ _ (digit_some n c) (λ e. cc) (λ e. cc))
-octets_some n (c ∷ d ∷ cs) =
-    let second = cond_both (gap d) (Err (LoneDigit n)) (digit_at (n + 1) d) IsSome (λ _ e. cc) (λ _. digit_some (n + 1) d) in
-    cond_both (gap c) _ _ IsSome (λ _. octets_some (n + 1) (d ∷ cs)) (λ _. pair_some (digit_at n c) _ _ (digit_some n c) second (octets_some (n + 2) cs))
+octets_not_blank : (n : ℕ) (cs : List ℕ) → NotBlank (octets_from n cs)
+octets_not_blank n [] = λ e. cc
+octets_not_blank n (c ∷ []) =
+    cond_both (gap c) _ _ NotBlank (λ _ e. cc) (λ _. pair_not_blank (digit_at n c) _ _ (digit_not_blank n c) (λ e. cc) (λ e. cc))
+octets_not_blank n (c ∷ d ∷ cs) =
+    let second = cond_both (gap d) (Err (LoneDigit n)) (digit_at (n + 1) d) NotBlank (λ _ e. cc) (λ _. digit_not_blank (n + 1) d) in
+    cond_both (gap c) _ _ NotBlank (λ _. octets_not_blank (n + 1) (d ∷ cs)) (λ _. pair_not_blank (digit_at n c) _ _ (digit_not_blank n c) second (octets_not_blank (n + 2) cs))
 
 -- memory is wanted for an octet
-onto_keeps : (front : List ℕ) (octet : ℕ) (said : Said) → IsSome said → Keeps (onto front (before octet said))
-onto_keeps front octet (Ok others) some =
+onto_keeps : (front : List ℕ) (octet : ℕ) (said : Said) → NotBlank said → Keeps (onto front (before octet said))
+onto_keeps front octet (Ok others) written =
     (λ e. let none : front ++ (octet ∷ others) ≡ [] = cc in omega (arith, ap length none, length-append front (octet ∷ others)), λ e. cc)
-onto_keeps front octet (Err fault) some = (λ e. cc, some)
+onto_keeps front octet (Err fault) written = (λ e. cc, written)
 
 onto_push : (front : List ℕ) (octet : ℕ) (said : Said) → onto (front ++ octet ∷ []) said ≡ onto front (before octet said)
 onto_push front octet (Ok others) = ap (λ l. Ok l) (append_assoc front (octet ∷ []) others)
@@ -127,7 +130,7 @@ module _ {text front : List ℕ} {i : ℕ} {stage : Stage} (sofar : Sofar text f
   pushes octet is = record { said = onto_push front octet _ ∙ turn (Ok (Octet octet)) is }
 
   pub keeps : (octet : ℕ) → Ok (Octet octet) ≡ next_stage stage (get_or bytes i 0) (i + 1) → Reads (Err Memory) (octets_of text)
-  keeps octet is = subst Keeps (turn (Ok (Octet octet)) is) (onto_keeps front octet _ (octets_some (i + 1 + 1) (drop (i + 1) text)))
+  keeps octet is = subst Keeps (turn (Ok (Octet octet)) is) (onto_keeps front octet _ (octets_not_blank (i + 1 + 1) (drop (i + 1) text)))
 
   pub stops : (fault : HexFault) → Err fault ≡ next_stage stage (get_or bytes i 0) (i + 1) → Reads (Err fault) (octets_of text)
   stops fault is = refuses fault text (turn (Err fault) is)

@@ -1,7 +1,7 @@
 // Hex text, read one character after another.
 ghost use Rattle.std.specs.Prelude.{◌≡◌};
-ghost use Rattle.hex_text.specs.Digits.{blank, gap, digit_at};
-ghost use Rattle.hex_text.specs.Stages.{next_stage, last_stage, half};
+ghost use Rattle.hex_text.specs.Digits.{blank, gap};
+ghost use Rattle.hex_text.specs.Stages.{next_stage, last_stage};
 
 use crate::digit::Digit;
 use crate::text::HexFault;
@@ -27,38 +27,25 @@ impl Stage {
         ensures { result ≡ next_stage self character column }
     {
         match self {
-            Stage::Start => {
-                if is_blank(character) {
-                    Ok(Stage::Start)
-                } else if character == b'-' {
-                    Ok(Stage::Dash)
-                } else {
-                    first_digit(character, column)
-                }
-            }
-            Stage::Dash => {
-                if is_blank(character) {
-                    Ok(Stage::Dash)
-                } else {
-                    Err(HexFault::BehindDash { column })
-                }
-            }
+            Stage::Start if is_blank(character) => Ok(Stage::Start),
+            Stage::Start if character == b'-' => Ok(Stage::Dash),
+            Stage::Dash if is_blank(character) => Ok(Stage::Dash),
+            Stage::Dash => Err(HexFault::BehindDash { column }),
             Stage::Half {
                 high,
                 column: first,
             } => {
+                // No guard, since one on a pattern that holds a Digit gets no proof.
                 if is_gap(character) {
                     return Err(HexFault::LoneDigit { column: first });
                 }
                 let low = Digit::read(character, column)?;
                 Ok(Stage::Octet(high.octet(low)))
             }
-            Stage::Octet(_) | Stage::Gap => {
-                if is_gap(character) {
-                    Ok(Stage::Gap)
-                } else {
-                    first_digit(character, column)
-                }
+            Stage::Octet(_) | Stage::Gap if is_gap(character) => Ok(Stage::Gap),
+            Stage::Start | Stage::Octet(_) | Stage::Gap => {
+                let high = Digit::read(character, column)?;
+                Ok(Stage::Half { high, column })
             }
         }
     }
@@ -85,12 +72,4 @@ fn is_gap(character: u8) -> bool
     ensures { result ≡ gap character }
 {
     is_blank(character) || character == b':'
-}
-
-// The stage behind an octet's first digit.
-fn first_digit(character: u8, column: usize) -> Result<Stage, HexFault>
-    ensures { result ≡ half column (digit_at column character) }
-{
-    let high = Digit::read(character, column)?;
-    Ok(Stage::Half { high, column })
 }
