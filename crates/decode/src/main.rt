@@ -8,10 +8,10 @@ mod tests;
 mod usage;
 
 use failure::Failure;
-use input::{Reply, answer};
+use input::read;
+use std::env;
 use std::io::{BufRead, BufReader};
 use std::process::ExitCode;
-use std::{env, io};
 use usage::USAGE;
 
 fn main(rt: HostRuntime) -> ExitCode {
@@ -37,38 +37,21 @@ fn run(rt: &HostRuntime) -> Result<(), Failure> {
 }
 
 fn decode(rt: &HostRuntime) -> Result<(), Failure> {
-    let mut number: u64 = 0;
     let mut faults: u64 = 0;
-    for line in BufReader::new(rt.alloc(), rt.stdin())?.lines(rt.alloc()) {
-        number = number.saturating_add(1);
-        if !show(rt, number, line)? {
-            faults = faults.saturating_add(1);
+    let lines = BufReader::new(rt.alloc(), rt.stdin())?.lines(rt.alloc());
+    for (index, line) in lines.enumerate() {
+        match read(rt.alloc(), line)? {
+            Ok(None) => {}
+            Ok(Some(answer)) => println!(rt; "{answer}")?,
+            Err(fault) => {
+                println!(rt; "error line {}: {fault}", index + 1)?;
+                // Nothing here bounds how many lines there are.
+                faults = faults.saturating_add(1);
+            }
         }
     }
     if faults > 0 {
         return Err(Failure::Lines(faults));
     }
     Ok(())
-}
-
-// Prints what a line comes to, and answers whether it could be read.
-fn show(rt: &HostRuntime, number: u64, line: io::Result<String>) -> Result<bool, Failure> {
-    match line {
-        Ok(text) => match answer(rt.alloc(), text.as_str())? {
-            Reply::Nothing => Ok(true),
-            Reply::Answer(answer) => {
-                println!(rt; "{answer}")?;
-                Ok(true)
-            }
-            Reply::Fault(fault) => {
-                println!(rt; "error line {number}: {fault}")?;
-                Ok(false)
-            }
-        },
-        Err(error) if error.kind() == io::ErrorKind::InvalidData => {
-            println!(rt; "error line {number}: not UTF-8 text")?;
-            Ok(false)
-        }
-        Err(error) => Err(error.into()),
-    }
 }

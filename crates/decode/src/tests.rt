@@ -1,5 +1,5 @@
 // Lines that are no message.
-use crate::input::{Reply, answer};
+use crate::input::answer;
 use std::test::Fail;
 
 const SKIPPED: [&str; 4] = ["", " \t", "# 01 02", "  # -"];
@@ -15,24 +15,20 @@ const FAULTS: [(&str, &str); 7] = [
 ];
 
 #[test]
-fn skipped(rt: HostRuntime) -> Result<(), Fail> {
+fn skipped(rt: HostRuntime) {
     for line in SKIPPED {
-        assert!(rt;
-            matches!(answer(rt.alloc(), line)?, Reply::Nothing),
-            "{}",
-            line
-        );
+        assert!(rt; matches!(answer(rt.alloc(), line), Ok(None)), "{}", line);
     }
-    Ok(())
 }
 
 #[test]
 fn faults(rt: HostRuntime) -> Result<(), Fail> {
+    let heap = rt.alloc();
     for (line, says) in FAULTS {
-        match answer(rt.alloc(), line)? {
-            Reply::Fault(fault) => assert_eq!(rt; fault.as_str(), says, "{}", line),
-            _ => return Err(Fail::new(line)),
-        }
+        let Err(fault) = answer(heap, line) else {
+            return Err(Fail::new(line));
+        };
+        assert_eq!(rt; fault.to_string(heap)?.as_str(), says, "{}", line);
     }
     Ok(())
 }

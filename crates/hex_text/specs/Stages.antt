@@ -1,18 +1,10 @@
 -- What one character does to a reading of hex text, and where a text may end.
-use Rattle.std.specs.Prelude.{ℕ, ◌+◌, ◌*◌, ◌<◌, cond, Ok, Err, Result, ◌==◌}
+use Rattle.std.specs.Prelude.{ℕ, ◌+◌, ◌*◌, cond, Ok, Err, Result, ◌==◌}
 use Rattle.hex_text.specs.declared.text.HexFault.{HexFault}
 use Rattle.hex_text.specs.declared.text.HexFault.TheVariants.{Nothing, LoneDigit, BehindDash}
 use Rattle.hex_text.specs.declared.stage.Stage.{Stage}
 use Rattle.hex_text.specs.declared.stage.Stage.TheVariants.{Start, Dash, Half, Octet, Gap}
 use Rattle.hex_text.specs.Digits.{blank, gap, digit_at, second_at}
-
--- a first digit is below 16
-abbrev pub Small : Stage → Type 0
-Small Start = Unit {0}
-Small Dash = Unit {0}
-Small (Half high column) = high < 16
-Small (Octet octet) = Unit {0}
-Small Gap = Unit {0}
 
 -- an octet begins with a digit in column n
 abbrev pub half : ℕ → Result ℕ HexFault → Result Stage HexFault

@@ -1,8 +1,9 @@
 // Hex text, read one character after another.
-ghost use Rattle.std.specs.Prelude.{◌≡◌, ◌<◌, IfOk};
-ghost use Rattle.hex_text.specs.Digits.{blank, gap, digit_at};
-ghost use Rattle.hex_text.specs.Stages.{next_stage, last_stage, half, Small};
+ghost use Rattle.std.specs.Prelude.{◌≡◌};
+ghost use Rattle.hex_text.specs.Digits.{blank, gap};
+ghost use Rattle.hex_text.specs.Stages.{next_stage, last_stage};
 
+use crate::digit::Digit;
 use crate::text::HexFault;
 
 // What was read last.
@@ -13,7 +14,7 @@ pub enum Stage {
     // the dash that stands for no octets
     Dash,
     // the first digit of an octet, and its column
-    Half { high: u8, column: usize },
+    Half { high: Digit, column: usize },
     // the second digit of this octet
     Octet(u8),
     // blanks or colons behind an octet
@@ -23,43 +24,28 @@ pub enum Stage {
 impl Stage {
     // The stage behind one more character. Columns count from 1.
     pub(crate) fn next(self, character: u8, column: usize) -> Result<Stage, HexFault>
-        requires { Small self }
-        ensures value { result ≡ next_stage self character column }
-        ensures small { IfOk result Small }
+        ensures { result ≡ next_stage self character column }
     {
         match self {
-            Stage::Start => {
-                if is_blank(character) {
-                    Ok(Stage::Start)
-                } else if character == b'-' {
-                    Ok(Stage::Dash)
-                } else {
-                    first_digit(character, column)
-                }
-            }
-            Stage::Dash => {
-                if is_blank(character) {
-                    Ok(Stage::Dash)
-                } else {
-                    Err(HexFault::BehindDash { column })
-                }
-            }
+            Stage::Start if is_blank(character) => Ok(Stage::Start),
+            Stage::Start if character == b'-' => Ok(Stage::Dash),
+            Stage::Dash if is_blank(character) => Ok(Stage::Dash),
+            Stage::Dash => Err(HexFault::BehindDash { column }),
             Stage::Half {
                 high,
                 column: first,
             } => {
+                // No guard, since one on a pattern that holds a Digit gets no proof.
                 if is_gap(character) {
                     return Err(HexFault::LoneDigit { column: first });
                 }
-                let low = digit(character, column)?;
-                Ok(Stage::Octet(16 * high + low))
+                let low = Digit::read(character, column)?;
+                Ok(Stage::Octet(high.octet(low)))
             }
-            Stage::Octet(_) | Stage::Gap => {
-                if is_gap(character) {
-                    Ok(Stage::Gap)
-                } else {
-                    first_digit(character, column)
-                }
+            Stage::Octet(_) | Stage::Gap if is_gap(character) => Ok(Stage::Gap),
+            Stage::Start | Stage::Octet(_) | Stage::Gap => {
+                let high = Digit::read(character, column)?;
+                Ok(Stage::Half { high, column })
             }
         }
     }
@@ -86,24 +72,4 @@ fn is_gap(character: u8) -> bool
     ensures { result ≡ gap character }
 {
     is_blank(character) || character == b':'
-}
-
-fn digit(character: u8, column: usize) -> Result<u8, HexFault>
-    ensures { result ≡ digit_at column character }
-{
-    match character {
-        b'0'..=b'9' => Ok(character - b'0'),
-        b'A'..=b'F' => Ok(character - b'A' + 10),
-        b'a'..=b'f' => Ok(character - b'a' + 10),
-        _ => Err(HexFault::NoDigit { column }),
-    }
-}
-
-// The stage behind an octet's first digit.
-fn first_digit(character: u8, column: usize) -> Result<Stage, HexFault>
-    ensures value { result ≡ half column (digit_at column character) }
-    ensures small { IfOk result Small }
-{
-    let high = digit(character, column)?;
-    Ok(Stage::Half { high, column })
 }

@@ -6,6 +6,7 @@ ghost use Rattle.hex_text.specs.declared.text.HexFault.TheVariants.{Memory};
 
 use crate::stage::Stage;
 use std::alloc::{AllocError, AllocFailed, Global};
+use std::error::Error;
 use std::fmt;
 
 // Why a text is no octets. Columns count from 1.
@@ -41,6 +42,8 @@ impl fmt::Display for HexFault {
     }
 }
 
+impl Error for HexFault {}
+
 impl From<AllocError> for HexFault {
     ghost from_gives = { λ _ r. r ≡ Memory };
 
@@ -66,8 +69,8 @@ pub fn parse(heap: Global, text: &str) -> Result<Vec<u8>, HexFault>
 {
     let mut octets = Vec::new(heap);
     let mut stage = Stage::Start;
-    for (place, character) in text.as_bytes().iter().enumerate() {
-        stage = stage.next(*character, place + 1)?;
+    for (place, &character) in text.as_bytes().iter().enumerate() {
+        stage = stage.next(character, place + 1)?;
         if let Stage::Octet(octet) = stage {
             octets.push(octet)?;
         }
