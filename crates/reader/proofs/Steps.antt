@@ -1,12 +1,14 @@
 -- What the steps of reading tell where they succeed.
-use Rattle.std.proofs.Common.{◌≡◌, ℕ, zero, suc, ◌+◌, ◌-◌, ◌<◌, ◌≤◌, Bool, cond, eqb, List, length, get_or, take, drop, Ok, Err, Option, Result, sym, refl, ap, ◌∙◌, arith}
+use Rattle.std.proofs.Common.{◌≡◌, MatchResult, ℕ, zero, suc, ◌+◌, ◌-◌, ◌<◌, ◌≤◌, Bool, cond, eqb, List, length, get_or, take, drop, Ok, Err, Option, Result, sym, refl, ap, ◌∙◌, arith}
 use Rattle.std.proofs.lemmas.Bool.{ne_eqb}
 use Rattle.std.proofs.lemmas.Bool.Decides.{nat_tests}
 use Rattle.message.specs.declared.fault.Fault.{Fault}
 use Rattle.message.specs.declared.fault.Refusal.{Refusal}
-use Rattle.message.specs.declared.fault.Refusal.TheVariants.{OptionalPart}
-use Rattle.reader.specs.Window.{Window, then, lift}
-use Rattle.reader.specs.Reading.{octet, ends, counted, credit_after, parameters, any_parameters}
+use Rattle.message.specs.declared.fault.Refusal.TheVariants.{CutShort, FieldValue, OptionalPart}
+use Rattle.reader.specs.Window.{Window, then, lift, outcome}
+use Rattle.message.specs.Fields.{ReadsField}
+use Rattle.message.specs.Content.{between}
+use Rattle.reader.specs.Reading.{Converts, octet, field, ends, counted, credit_after, parameters, any_parameters}
 
 -- the window, so many octets further on
 abbrev pub moved : Window → ℕ → Window
@@ -22,6 +24,21 @@ pub counted_gives : (wrong : Refusal) (place : ℕ) (w : Window) (p : List ℕ �
     × (p ≡ (take (get_or w.octets w.place 0) (drop (w.place + 1) w.octets), record { octets = w.octets; place = w.place + 1 + get_or w.octets w.place 0 }))
 unfolding counted
 counted_gives wrong place w p e = (grind (arith, nat_tests), grind (arith, nat_tests), grind (arith, nat_tests), grind (arith, nat_tests))
+
+-- a converted field is the field with these values
+pub field_converted : {T : Type 0} (number : T → ℕ) (low high : ℕ) (r : Result T Fault) (v w : Window) → Converts (ReadsField number low high) r v w →
+    outcome number r v ≡ field low high w
+unfolding field
+field_converted {T = T} number low high r v w h = by (octet CutShort w) h
+  where
+    Gives : ℕ × Window → Type 0
+    Gives p = (c : Result T Refusal) × ReadsField number low high p.0 c × (v ≡ p.1) × MatchResult c (λ x. r ≡ Ok x) (λ why. r ≡ Err (record { refusal = why; place = w.place }))
+
+    by : (o : Result (ℕ × Window) Fault) → MatchResult o Gives (λ fault. r ≡ Err fault) →
+        outcome number r v ≡ then o (λ p. cond (between low high p.0) (Ok (p.0, p.1)) (Err (record { refusal = FieldValue; place = w.place })))
+    by (Err fault) e = rw e refl
+    by (Ok p) (Ok x, g, s, e) = rw (e, s, g.0, g.1) refl
+    by (Ok p) (Err why, g, s, e) = rw (e, g.0, g.1) refl
 
 -- two continuations that agree where the step succeeds
 pub then_same : {A B : Type 0} (r : Result A Fault) (f g : A → Result B Fault) → ((a : A) → r ≡ Ok a → f a ≡ g a) → then r f ≡ then r g

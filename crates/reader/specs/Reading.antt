@@ -1,5 +1,5 @@
 -- What an octet string means: a message's content, or the one refusal that the checking order gives.
-use Rattle.std.specs.Prelude.{ℕ, zero, suc, ◌+◌, ◌*◌, ◌/◌, ◌%◌, Bool, true, false, cond, not, ◌&&◌, ◌||◌, List, length, take, drop, is_some, Some, None, Ok, Err, Option, Result, ◌==◌, nat_le, nat_lt, slice_index}
+use Rattle.std.specs.Prelude.{◌≡◌, MatchResult, ℕ, zero, suc, ◌+◌, ◌*◌, ◌/◌, ◌%◌, Bool, true, false, cond, not, ◌&&◌, ◌||◌, List, length, take, drop, is_some, Some, None, Ok, Err, Option, Result, ◌==◌, nat_le, nat_lt, slice_index}
 use Rattle.std.specs.Option.{unwrap_or}
 use Rattle.message.specs.declared.fault.Fault.{Fault}
 use Rattle.message.specs.declared.fault.Refusal.{Refusal}
@@ -49,6 +49,13 @@ field low high = do
   place ← here
   x ← octet CutShort
   choose (between low high x) (give x) (refuse FieldValue place)
+
+-- a field of one octet, converted: the fault of a missing octet, or what the conversion may give of it, refused at the field's place
+abbrev pub Converts : {T : Type 0} → (ℕ → Result T Refusal → Type 0) → Result T Fault → Window → Window → Type 0
+Converts {T} gives result after before =
+    MatchResult (octet CutShort before)
+    (λ p. (c : Result T Refusal) × gives p.0 c × (after ≡ p.1) × MatchResult c (λ x. result ≡ Ok x) (λ why. result ≡ Err (record { refusal = why; place = before.place })))
+    (λ fault. result ≡ Err fault)
 
 -- a sequence number by itself: twice its value
 unfoldable pub sequence_number : Read ℕ

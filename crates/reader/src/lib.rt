@@ -5,6 +5,7 @@ ghost use Rattle.std.specs.Prelude.{◌≡◌, ◌+◌, ◌<◌};
 ghost use Rattle.message.specs.Meaning.{error_number, number_of_class};
 ghost use Rattle.reader.specs.Window.{Window, outcome, nothing};
 ghost use Rattle.reader.specs.Reading as reading;
+ghost use Rattle.reader.specs.Reading.{Converts};
 
 use message::content::{Cause, ClassNumber, Credit, ErrorCause, Reference, SequenceNumber};
 use message::fault::{Fault, Refusal};
@@ -113,13 +114,20 @@ impl<'a> Reader<'a> {
         }
     }
 
-    #[tactic(auto, unfolding(crate::specs::Reading::field))]
-    fn class(&mut self) -> Result<ClassNumber, Fault>
-        ensures { outcome number_of_class result self.new ≡ reading.field 2 3 self.old }
+    // A field of one octet that stands for something: what its conversion refuses is refused at its place.
+    fn converted<T: TryFrom<u8, Error = Refusal>>(&mut self) -> Result<T, Fault>
+        ensures { Converts T.try_from_gives result self.new self.old }
     {
         let place = self.at;
         let octet = self.octet(Refusal::CutShort)?;
-        ClassNumber::try_from(octet).map_err(|refusal| refusal.at(place))
+        T::try_from(octet).map_err(|refusal| refusal.at(place))
+    }
+
+    #[tactic(auto, using(crate::proofs::Steps::field_converted))]
+    fn class(&mut self) -> Result<ClassNumber, Fault>
+        ensures { outcome number_of_class result self.new ≡ reading.field 2 3 self.old }
+    {
+        self.converted()
     }
 
     // The cause in CREF, RLSD and RSR.
@@ -129,15 +137,12 @@ impl<'a> Reader<'a> {
         self.field(0, 15).map(Cause)
     }
 
-    // The cause in ERR. Like `class` but for the type: what one function for both could promise is the conversion alone,
-    // and its callers would have to show that this is the reading step.
-    #[tactic(auto, unfolding(crate::specs::Reading::field))]
+    // The cause in ERR.
+    #[tactic(auto, using(crate::proofs::Steps::field_converted))]
     fn error_cause(&mut self) -> Result<ErrorCause, Fault>
         ensures { outcome error_number result self.new ≡ reading.field 0 4 self.old }
     {
-        let place = self.at;
-        let octet = self.octet(Refusal::CutShort)?;
-        ErrorCause::try_from(octet).map_err(|refusal| refusal.at(place))
+        self.converted()
     }
 
     fn credit(&mut self) -> Result<Credit, Fault>
