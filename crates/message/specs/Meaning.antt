@@ -5,6 +5,7 @@ use Rattle.message.specs.declared.content.ErrorCause.{ErrorCause}
 use Rattle.message.specs.declared.content.ErrorCause.TheVariants.{UnassignedDestination, InconsistentSource, PointCodeMismatch, ClassMismatch, Unqualified}
 use Rattle.message.specs.declared.content.ClassNumber.{ClassNumber}
 use Rattle.message.specs.declared.content.ClassNumber.TheVariants.{Two, Three}
+use Rattle.message.specs.declared.content.Cause.{Cause}
 use Rattle.message.specs.declared.content.Credit.{Credit}
 use Rattle.message.specs.declared.content.ProtocolClass.{ProtocolClass}
 use Rattle.message.specs.declared.content.ProtocolClass.TheVariants.{Class2, Class3}
@@ -32,6 +33,13 @@ credit_of (Class3 credit) = Some credit
 abbrev pub credit_number : ProtocolClass → ℕ
 credit_number Class2 = 0
 credit_number (Class3 credit) = credit.0
+
+-- a cause and a credit as they stand in a message
+abbrev pub cause_number : Cause → ℕ
+cause_number cause = cause.0
+
+abbrev pub window_size : Credit → ℕ
+window_size credit = credit.0
 
 -- the cause as it stands in ERR
 abbrev pub error_number : ErrorCause → ℕ

@@ -3,7 +3,7 @@ ghost use Rattle.std.specs.Prelude.{◌≡◌, nat_le};
 ghost use Rattle.message.specs.Content.{within, between, reference_fits, class_fits};
 ghost use Rattle.message.specs.Layout.{reference_octets};
 ghost use Rattle.message.specs.Fields.{ReadsReference, ReadsField};
-ghost use Rattle.message.specs.Meaning.{meaning, class_number, credit_number, credit_of, error_number, number_of_class};
+ghost use Rattle.message.specs.Meaning.{meaning, class_number, credit_number, credit_of, cause_number, window_size, error_number, number_of_class};
 
 use crate::fault::Refusal;
 
@@ -235,6 +235,28 @@ impl TryFrom<u8> for ClassNumber {
             3 => Ok(ClassNumber::Three),
             _ => Err(Refusal::FieldValue),
         }
+    }
+}
+
+impl TryFrom<u8> for Cause {
+    type Error = Refusal;
+
+    ghost try_from_gives = { ReadsField cause_number 0 15 };
+
+    fn try_from(octet: u8) -> Result<Cause, Refusal> {
+        let cause = Cause(octet);
+        cause.fits().then_some(cause).ok_or(Refusal::FieldValue)
+    }
+}
+
+impl TryFrom<u8> for Credit {
+    type Error = Refusal;
+
+    ghost try_from_gives = { ReadsField window_size 1 127 };
+
+    fn try_from(octet: u8) -> Result<Credit, Refusal> {
+        let credit = Credit(octet);
+        credit.fits().then_some(credit).ok_or(Refusal::FieldValue)
     }
 }
 

@@ -2,12 +2,12 @@
 #![tactic(auto)]
 
 ghost use Rattle.std.specs.Prelude.{◌≡◌, ◌+◌, ◌<◌};
-ghost use Rattle.message.specs.Meaning.{error_number, number_of_class};
+ghost use Rattle.message.specs.Layout.{more_octet};
 ghost use Rattle.reader.specs.Window.{Window, outcome, nothing};
 ghost use Rattle.reader.specs.Reading as reading;
 ghost use Rattle.reader.specs.Reading.{Converts};
 
-use message::content::{Cause, ClassNumber, Credit, ErrorCause, Reference, SequenceNumber};
+use message::content::{Reference, SequenceNumber};
 use message::fault::{Fault, Refusal};
 use std::marker::Model;
 
@@ -100,22 +100,8 @@ impl<'a> Reader<'a> {
         Reference::try_from([low, middle, high]).map_err(|refusal| refusal.at(place))
     }
 
-    // A field of one octet, with a value from `low` to `high`.
-    #[tactic(auto, unfolding(crate::specs::Reading::field))]
-    fn field(&mut self, low: u8, high: u8) -> Result<u8, Fault>
-        ensures { outcome (λ x. x) result self.new ≡ reading.field low high self.old }
-    {
-        let place = self.at;
-        let value = self.octet(Refusal::CutShort)?;
-        if (low..=high).contains(&value) {
-            Ok(value)
-        } else {
-            Err(Refusal::FieldValue.at(place))
-        }
-    }
-
     // A field of one octet that stands for something: what its conversion refuses is refused at its place.
-    fn converted<T: TryFrom<u8, Error = Refusal>>(&mut self) -> Result<T, Fault>
+    fn field<T: TryFrom<u8, Error = Refusal>>(&mut self) -> Result<T, Fault>
         ensures { Converts T.try_from_gives result self.new self.old }
     {
         let place = self.at;
@@ -123,32 +109,17 @@ impl<'a> Reader<'a> {
         T::try_from(octet).map_err(|refusal| refusal.at(place))
     }
 
-    #[tactic(auto, using(crate::proofs::Steps::field_converted))]
-    fn class(&mut self) -> Result<ClassNumber, Fault>
-        ensures { outcome number_of_class result self.new ≡ reading.field 2 3 self.old }
+    // M by itself in an octet.
+    #[tactic(auto, unfolding(crate::specs::Reading::field))]
+    fn more(&mut self) -> Result<bool, Fault>
+        ensures { outcome more_octet result self.new ≡ reading.field 0 1 self.old }
     {
-        self.converted()
-    }
-
-    // The cause in CREF, RLSD and RSR.
-    fn cause(&mut self) -> Result<Cause, Fault>
-        ensures { outcome (λ x. x.0) result self.new ≡ reading.field 0 15 self.old }
-    {
-        self.field(0, 15).map(Cause)
-    }
-
-    // The cause in ERR.
-    #[tactic(auto, using(crate::proofs::Steps::field_converted))]
-    fn error_cause(&mut self) -> Result<ErrorCause, Fault>
-        ensures { outcome error_number result self.new ≡ reading.field 0 4 self.old }
-    {
-        self.converted()
-    }
-
-    fn credit(&mut self) -> Result<Credit, Fault>
-        ensures { outcome (λ x. x.0) result self.new ≡ reading.field 1 127 self.old }
-    {
-        self.field(1, 127).map(Credit)
+        let place = self.at;
+        match self.octet(Refusal::CutShort)? {
+            0 => Ok(false),
+            1 => Ok(true),
+            _ => Err(Refusal::FieldValue.at(place)),
+        }
     }
 
     // A sequence number by itself in an octet: twice its value.

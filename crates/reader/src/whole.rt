@@ -1,4 +1,5 @@
 // The eleven messages, each as its layout has it behind the type: fixed fields, pointers, the variable part, the optional part.
+// Two chains of as many steps, as those of AK and RSR, are no twins: what they read differs.
 ghost use Rattle.std.specs.Prelude.{◌≡◌, ◌<◌, true, ◌↔◌, IfOk, Ok};
 ghost use Rattle.message.specs.Content.{Content, within};
 ghost use Rattle.message.specs.Layout.{IsMessage};
@@ -59,13 +60,14 @@ impl<'a> Reader<'a> {
         }
     }
 
+    #[tactic(auto, using(crate::proofs::Steps::field_converted))]
     fn connection_request(&mut self) -> Result<Message<'a>, Fault>
         ensures { means result ≡ reading.value (reading.connection_request self.old) }
     {
         self.header(7)?;
         let source = self.reference()?;
         let place = self.at;
-        let class = self.class()?;
+        let class = self.field()?;
         let (subsystem, optional) = self.called_party()?;
         let found = self.optional_part(true, optional)?;
         let class = agreed(place, class, found)?;
@@ -76,6 +78,7 @@ impl<'a> Reader<'a> {
         })
     }
 
+    #[tactic(auto, using(crate::proofs::Steps::field_converted))]
     fn connection_confirm(&mut self) -> Result<Message<'a>, Fault>
         ensures { means result ≡ reading.value (reading.connection_confirm self.old) }
     {
@@ -83,7 +86,7 @@ impl<'a> Reader<'a> {
         let destination = self.reference()?;
         let source = self.reference()?;
         let place = self.at;
-        let class = self.class()?;
+        let class = self.field()?;
         let optional = self.pointer()?;
         let found = self.optional_part(true, optional)?;
         let class = agreed(place, class, found)?;
@@ -94,24 +97,26 @@ impl<'a> Reader<'a> {
         })
     }
 
+    #[tactic(auto, using(crate::proofs::Steps::field_converted))]
     fn connection_refused(&mut self) -> Result<Message<'a>, Fault>
         ensures { means result ≡ reading.value (reading.connection_refused self.old) }
     {
         self.header(6)?;
         let destination = self.reference()?;
-        let cause = self.cause()?;
+        let cause = self.field()?;
         let optional = self.pointer()?;
         self.optional_part(false, optional)?;
         Ok(Message::ConnectionRefused { destination, cause })
     }
 
+    #[tactic(auto, using(crate::proofs::Steps::field_converted))]
     fn released(&mut self) -> Result<Message<'a>, Fault>
         ensures { means result ≡ reading.value (reading.released self.old) }
     {
         self.header(9)?;
         let destination = self.reference()?;
         let source = self.reference()?;
-        let cause = self.cause()?;
+        let cause = self.field()?;
         let optional = self.pointer()?;
         self.optional_part(false, optional)?;
         Ok(Message::Released {
@@ -138,11 +143,11 @@ impl<'a> Reader<'a> {
     {
         self.header(6)?;
         let destination = self.reference()?;
-        let more = self.field(0, 1)?;
+        let more = self.more()?;
         let data = self.segment()?;
         Ok(Message::DataForm1 {
             destination,
-            more: more == 1,
+            more,
             data,
         })
     }
@@ -165,13 +170,14 @@ impl<'a> Reader<'a> {
         })
     }
 
+    #[tactic(auto, using(crate::proofs::Steps::field_converted))]
     fn data_acknowledgement(&mut self) -> Result<Message<'a>, Fault>
         ensures { means result ≡ reading.value (reading.data_acknowledgement self.old) }
     {
         self.header(6)?;
         let destination = self.reference()?;
         let receive = self.sequence_number()?;
-        let credit = self.credit()?;
+        let credit = self.field()?;
         self.ends(Refusal::VariablePart)?;
         Ok(Message::DataAcknowledgement {
             destination,
@@ -180,13 +186,14 @@ impl<'a> Reader<'a> {
         })
     }
 
+    #[tactic(auto, using(crate::proofs::Steps::field_converted))]
     fn reset_request(&mut self) -> Result<Message<'a>, Fault>
         ensures { means result ≡ reading.value (reading.reset_request self.old) }
     {
         self.header(8)?;
         let destination = self.reference()?;
         let source = self.reference()?;
-        let cause = self.cause()?;
+        let cause = self.field()?;
         self.ends(Refusal::VariablePart)?;
         Ok(Message::ResetRequest {
             destination,
@@ -195,12 +202,13 @@ impl<'a> Reader<'a> {
         })
     }
 
+    #[tactic(auto, using(crate::proofs::Steps::field_converted))]
     fn error(&mut self) -> Result<Message<'a>, Fault>
         ensures { means result ≡ reading.value (reading.error self.old) }
     {
         self.header(5)?;
         let destination = self.reference()?;
-        let cause = self.error_cause()?;
+        let cause = self.field()?;
         self.ends(Refusal::VariablePart)?;
         Ok(Message::Error { destination, cause })
     }
