@@ -260,7 +260,8 @@ impl TryFrom<u8> for Credit {
     }
 }
 
-// The limits of single fields, a line each: a trait with limits as constants would take more lines at each type.
+// Fields of one octet are types of their own, each with its limits. As one type with the limits for const parameters,
+// fields of the same limits would be one type, and Credit or Cause could not be written to make a value.
 impl Reference {
     fn fits(self) -> bool
         ensures { result ≡ reference_fits self.0 }
