@@ -238,6 +238,8 @@ impl TryFrom<u8> for ClassNumber {
     }
 }
 
+// Fields of one octet are types of their own, each with its limits. As one type with the limits for const parameters,
+// fields of the same limits would be one type, and Credit or Cause could not be written to make a value.
 impl TryFrom<u8> for Cause {
     type Error = Refusal;
 
@@ -260,8 +262,6 @@ impl TryFrom<u8> for Credit {
     }
 }
 
-// Fields of one octet are types of their own, each with its limits. As one type with the limits for const parameters,
-// fields of the same limits would be one type, and Credit or Cause could not be written to make a value.
 impl Reference {
     fn fits(self) -> bool
         ensures { result ≡ reference_fits self.0 }
