@@ -1,10 +1,12 @@
 -- What becomes of the queues of a pile as a message comes or goes.
-use Rattle.std.specs.Prelude.{◌≡◌, ℕ, zero, suc, ◌+◌, ◌/◌, ◌<◌, ◌≤◌, Bool, true, false, cond, ◌&&◌, ◌≢◌, List, [], ◌∷◌, ◌++◌, map, length, get_or, take, drop, set, sum_by, count_by, ◌==◌, nat_lt, slice_index_or, slice_set, refl}
+use Rattle.std.specs.Prelude.{◌≡◌, ℕ, zero, suc, ◌+◌, ◌/◌, ◌<◌, ◌≤◌, Bool, true, false, cond, ◌&&◌, ◌≢◌, Option, None, Some, List, [], ◌∷◌, ◌++◌, map, length, get_or, take, drop, set, sum_by, count_by, find, MatchOption, ◌==◌, nat_lt, slice_index_or, slice_set, refl}
 use Rattle.std.proofs.Common.{sym, ap, ◌∙◌, subst, ⊎_elim, arith, add-one}
 use Rattle.std.specs.List.{range_with_len, remove}
 use Rattle.std.proofs.lemmas.Bool.Decides.{nat_tests}
-use Rattle.std.proofs.lemmas.Bool.{cases_lt, cases_eq, cases_Bool, cond-true, cond-false}
+use Rattle.std.proofs.lemmas.Bool.{cases_lt, cases_eq, cases_Bool, cond-true, cond-false, true≢false, false≢true}
 use Rattle.std.proofs.lemmas.List.Sums.{sum_by-cons, sum_by-set}
+use Rattle.std.specs.Option.{option_map_or}
+use Rattle.std.proofs.lemmas.List.Folds.{find_past}
 use Rattle.std.proofs.lemmas.List.Edits.{length-remove, get_or-remove_below, get_or-remove_above}
 use Rattle.std.proofs.lemmas.List.FromFn.{length-map-range_with_len, get_or-map-range_with_len, map-range_with_len_more, fill_by_all}
 use Rattle.route.specs.Ends.{end_number}
@@ -17,12 +19,11 @@ use Rattle.route.specs.Ways.{Messages, Sound, without}
 use Rattle.route.proofs.Calls.{sound_of}
 use Rattle.pile.specs.declared.store.Pile.{Pile}
 use Rattle.pile.specs.Held.{pile_ways}
-use Rattle.pile.specs.declared.records.Tag.{Tag}
-use Rattle.pile.specs.declared.records.Tag.TheVariants.{Free, Waiting}
+use Rattle.pile.specs.declared.records.Waiting.{Waiting}
 use Rattle.pile.specs.declared.records.Record.{Record}
-use Rattle.pile.specs.Numbers.{is_free, toward_end, waits, FreeAt, unoccupied, waiting, holders, Numbered, message_numbered, in_order, moved_up, with_moved_up, freed}
+use Rattle.pile.specs.Numbers.{is_free, toward_end, waits, FreeAt, unoccupied, waiting, holders, Numbered, message_numbered, in_order, moved_up, with_moved_up}
 
--- sums over records that are changed, over two parts, of nothing, and of ones
+-- sums over records that are changed, over two parts, and of ones
 sum_over : {X : Type 0} (f : X → X) (g h : X → ℕ) → ((x : X) → g (f x) ≡ h x) → (l : List X) → sum_by g (map f l) ≡ sum_by h l
 sum_over f g h e [] = refl
 sum_over f g h e (x ∷ l) =
@@ -37,10 +38,6 @@ sum_parts f g h e (x ∷ l) =
     let here = e x in
     omega (arith, sum_by-cons f x l, sum_by-cons g x l, sum_by-cons h x l)
 
-sum_none : {X : Type 0} (f : X → ℕ) → ((x : X) → f x ≡ 0) → (l : List X) → sum_by f l ≡ 0
-sum_none f e [] = refl
-sum_none f e (x ∷ l) = let rest = sum_none f e l in let here = e x in omega (arith, sum_by-cons f x l)
-
 sum_ones : {X : Type 0} (l : List X) → sum_by (λ _. 1) l ≡ length l
 sum_ones [] = refl
 sum_ones (x ∷ l) = let rest = sum_ones l in omega (arith, sum_by-cons (λ _. 1) x l)
@@ -52,10 +49,13 @@ count_set p l i r h e =
     omega (arith, sum_by-set (λ x. cond (p x) 1 0) l i r r h)
 
 -- each record is free or waits toward one of the ends
-parts : (t : Tag) → cond (toward_end 0 t) 1 0 + cond (toward_end 1 t) 1 0 + cond (is_free t) 1 0 ≡ 1
-parts Free = refl
-parts (Waiting Zero number) = refl
-parts (Waiting One number) = refl
+parts : (t : Option Waiting) → cond (toward_end 0 t) 1 0 + cond (toward_end 1 t) 1 0 + cond (is_free t) 1 0 ≡ 1
+parts None = refl
+parts (Some w) = of w.end
+  where
+    of : (end : End) → cond (end_number end == 0) 1 0 + cond (end_number end == 1) 1 0 + 0 ≡ 1
+    of Zero = refl
+    of One = refl
 
 all_records : (l : List Record) → waiting 0 l + waiting 1 l + unoccupied l ≡ length l
 all_records l =
@@ -68,21 +68,21 @@ all_records l =
 abbrev before : ℕ → ℕ → ℕ
 before k j = cond (nat_lt j k) j (j + 1)
 
-moved_same : (e k j : ℕ) (t : Tag) → waits e j (moved_up e k t) ≡ waits e (before k j) t
-moved_same e k j Free = refl
-moved_same e k j (Waiting d n) = grind (arith, nat_tests)
+moved_same : (e k j : ℕ) (t : Option Waiting) → waits e j (moved_up e k t) ≡ waits e (before k j) t
+moved_same e k j None = refl
+moved_same e k j (Some w) = grind (arith, nat_tests)
 
-moved_other : (d e k j : ℕ) (t : Tag) → d ≢ e → waits d j (moved_up e k t) ≡ waits d j t
-moved_other d e k j Free h = refl
-moved_other d e k j (Waiting c n) h = grind (arith, nat_tests)
+moved_other : (d e k j : ℕ) (t : Option Waiting) → d ≢ e → waits d j (moved_up e k t) ≡ waits d j t
+moved_other d e k j None h = refl
+moved_other d e k j (Some w) h = grind (arith, nat_tests)
 
-toward_same : (e k : ℕ) (t : Tag) → cond (toward_end e (moved_up e k t)) 1 0 + cond (waits e k t) 1 0 ≡ cond (toward_end e t) 1 0
-toward_same e k Free = refl
-toward_same e k (Waiting d n) = grind (arith, nat_tests)
+toward_same : (e k : ℕ) (t : Option Waiting) → cond (toward_end e (moved_up e k t)) 1 0 + cond (waits e k t) 1 0 ≡ cond (toward_end e t) 1 0
+toward_same e k None = refl
+toward_same e k (Some w) = grind (arith, nat_tests)
 
-toward_other : (d e k : ℕ) (t : Tag) → d ≢ e → toward_end d (moved_up e k t) ≡ toward_end d t
-toward_other d e k Free h = refl
-toward_other d e k (Waiting c n) h = grind (arith, nat_tests)
+toward_other : (d e k : ℕ) (t : Option Waiting) → d ≢ e → toward_end d (moved_up e k t) ≡ toward_end d t
+toward_other d e k None h = refl
+toward_other d e k (Some w) h = grind (arith, nat_tests)
 
 -- a queue has as many messages as wait, each at its number
 pub length-order : (e : ℕ) (l : List Record) → length (in_order e l) ≡ waiting e l
@@ -98,19 +98,24 @@ is_order e l q n f = fill_by_all (λ k. message_numbered e k l) q (waiting e l) 
 same_order : (e : ℕ) (l m : List Record) → waiting e m ≡ waiting e l → ((k : ℕ) → k < waiting e l → message_numbered e k m ≡ message_numbered e k l) → in_order e m ≡ in_order e l
 same_order e l m n f = is_order e l (in_order e m) (length-order e m ∙ n) (λ k h. at_order e k m (omega arith) ∙ f k h)
 
+-- what is looked for among the records is found where one has it
+pub found : {X : Type 0} (p : X → Bool) (xs : List X) → MatchOption (find p xs) (count_by p xs ≡ 0) (λ _. 0 < count_by p xs)
+found p [] = refl
+found {X} p (x ∷ xs) = rw (sum_by-cons (λ y. cond (p y) 1 0) x xs) (go (p x) (find p xs) (count_by p xs) (found p xs))
+  where
+    go : (b : Bool) (o : Option X) (n : ℕ) → MatchOption o (n ≡ 0) (λ _. 0 < n) → MatchOption (cond b (Some x) o) (cond b 1 0 + n ≡ 0) (λ _. 0 < cond b 1 0 + n)
+    go true o n h = omega arith
+    go false None n h = omega arith
+    go false (Some y) n h = omega arith
+
 -- each message has 1 to 268 octets
 sized-numbered : (e k : ℕ) (l : List Record) → 0 < holders e k l → (0 < length (message_numbered e k l)) × (length (message_numbered e k l) ≤ 268)
-sized-numbered e k [] h = absurd (omega arith)
-sized-numbered e k (r ∷ l) h =
-    let P : List ℕ → Type 0 = λ m. (0 < length m) × (length m ≤ 268) in
-    let b = waits e k r.tag in
-    ⊎_elim
-    (λ (w : b ≡ true). subst P (sym (cond-true b (message_of r.slot) (message_numbered e k l) w)) (sized r.slot))
-    (λ (w : b ≡ false).
-    let none : ◌≡◌ {A = ℕ} (cond b 1 0) 0 = cond-false b 1 0 w in
-    subst P (sym (cond-false b (message_of r.slot) (message_numbered e k l) w))
-    (sized-numbered e k l (omega (arith, sum_by-cons (λ (x : Record). cond (waits e k x.tag) 1 0) r l))))
-    (cases_Bool b)
+sized-numbered e k l h = go (find (λ (r : Record). waits e k r.tag) l) (found (λ (r : Record). waits e k r.tag) l)
+  where
+    go : (o : Option Record) → MatchOption o (holders e k l ≡ 0) (λ _. 0 < holders e k l) →
+        (0 < length (option_map_or (λ (r : Record). message_of r.slot) o [])) × (length (option_map_or (λ (r : Record). message_of r.slot) o []) ≤ 268)
+    go None z = absurd (omega arith)
+    go (Some r) _ = sized r.slot
 
 pub sized-order : (e k : ℕ) (l : List Record) → Numbered l → k < length (in_order e l) → (0 < length (slice_index_or (in_order e l) k [])) × (length (slice_index_or (in_order e l) k []) ≤ 268)
 sized-order e k l u h =
@@ -127,13 +132,21 @@ pub no_oldest : (e : ℕ) (l : List Record) → Numbered l → holders e 0 l ≡
 no_oldest e l u h = let n = u e 0 in grind (arith, nat_tests)
 
 -- As a message goes, each number names the message that the number before named
-numbered_over : (d j i e k : ℕ) (l : List Record) → ((t : Tag) → waits d j (moved_up e k t) ≡ waits d i t) → message_numbered d j (map (with_moved_up e k) l) ≡ message_numbered d i l
+numbered_over : (d j i e k : ℕ) (l : List Record) → ((t : Option Waiting) → waits d j (moved_up e k t) ≡ waits d i t) → message_numbered d j (map (with_moved_up e k) l) ≡ message_numbered d i l
 numbered_over d j i e k [] w = refl
 numbered_over d j i e k (r ∷ l) w =
-    ap (λ b. cond b (message_of r.slot) (message_numbered d j (map (with_moved_up e k) l))) (w r.tag)
-    ∙ ap (λ m. cond (waits d i r.tag) (message_of r.slot) m) (numbered_over d j i e k l w)
+    go (waits d j (moved_up e k r.tag)) (waits d i r.tag) (w r.tag) (find (λ (x : Record). waits d j x.tag) (map (with_moved_up e k) l)) (find (λ (x : Record). waits d i x.tag) l) (numbered_over d j i e k l w)
+  where
+    message : Option Record → List ℕ
+    message o = option_map_or (λ (x : Record). message_of x.slot) o []
 
-holders_over : (d j i e k : ℕ) (l : List Record) → ((t : Tag) → waits d j (moved_up e k t) ≡ waits d i t) → holders d j (map (with_moved_up e k) l) ≡ holders d i l
+    go : (b c : Bool) → b ≡ c → (o p : Option Record) → message o ≡ message p → message (cond b (Some (with_moved_up e k r)) o) ≡ message (cond c (Some r) p)
+    go true true h o p same = refl
+    go false false h o p same = same
+    go true false h o p same = absurd (true≢false h)
+    go false true h o p same = absurd (false≢true h)
+
+holders_over : (d j i e k : ℕ) (l : List Record) → ((t : Option Waiting) → waits d j (moved_up e k t) ≡ waits d i t) → holders d j (map (with_moved_up e k) l) ≡ holders d i l
 holders_over d j i e k l w =
     sum_over (with_moved_up e k) (λ r. cond (waits d j r.tag) 1 0) (λ r. cond (waits d i r.tag) 1 0) (λ r. ap (λ b. cond b 1 0) (w r.tag)) l
 
@@ -188,23 +201,23 @@ removed_same e k l u h =
 
 -- as a message comes, it is written into a free record, with the number behind the others
 abbrev pub record_of : End → ℕ → Slot → Record
-record_of end n s = record { tag = Waiting end n; slot = s }
+record_of end n s = record { tag = Some (record { end = end; number = n }); slot = s }
 
 numbered_set_other : (d k : ℕ) (l : List Record) (i : ℕ) (r : Record) → waits d k (get_or l i r).tag ≡ false → waits d k r.tag ≡ false → message_numbered d k (slice_set l i r) ≡ message_numbered d k l
-numbered_set_other d k [] i r o w = refl
-numbered_set_other d k (x ∷ l) zero r o w = cond-false (waits d k r.tag) _ _ w ∙ sym (cond-false (waits d k x.tag) _ _ o)
-numbered_set_other d k (x ∷ l) (suc i) r o w = ap (λ m. cond (waits d k x.tag) (message_of x.slot) m) (numbered_set_other d k l i r o w)
+numbered_set_other d k l i r o w = ap (λ f. option_map_or (λ (x : Record). message_of x.slot) f []) (find_past (λ (x : Record). waits d k x.tag) l i r r o w)
+
+found_alone : {X : Type 0} (p : X → Bool) (xs : List X) (i : ℕ) (y : X) → i < length xs → count_by p xs ≡ 0 → p y ≡ true → find p (set xs i y) ≡ Some y
+found_alone p [] i y h n w = absurd (omega arith)
+found_alone p (x ∷ xs) zero y h n w = cond-true (p y) _ _ w
+found_alone p (x ∷ xs) (suc i) y h n w =
+    let more = sum_by-cons (λ z. cond (p z) 1 0) x xs in
+    ⊎_elim
+    (λ (t : p x ≡ true). let one : ◌≡◌ {A = ℕ} (cond (p x) 1 0) 1 = cond-true (p x) 1 0 t in absurd (omega arith))
+    (λ (t : p x ≡ false). cond-false (p x) _ _ t ∙ found_alone p xs i y (omega arith) (omega arith) w)
+    (cases_Bool (p x))
 
 numbered_set_same : (d k : ℕ) (l : List Record) (i : ℕ) (r : Record) → i < length l → holders d k l ≡ 0 → waits d k r.tag ≡ true → message_numbered d k (slice_set l i r) ≡ message_of r.slot
-numbered_set_same d k [] i r h o w = absurd (omega arith)
-numbered_set_same d k (x ∷ l) zero r h o w = cond-true (waits d k r.tag) _ _ w
-numbered_set_same d k (x ∷ l) (suc i) r h o w =
-    let b = waits d k x.tag in
-    let more = sum_by-cons (λ (y : Record). cond (waits d k y.tag) 1 0) x l in
-    ⊎_elim
-    (λ (t : b ≡ true). let one : ◌≡◌ {A = ℕ} (cond b 1 0) 1 = cond-true b 1 0 t in absurd (omega arith))
-    (λ (t : b ≡ false). cond-false b _ _ t ∙ numbered_set_same d k l i r (omega arith) (omega arith) w)
-    (cases_Bool b)
+numbered_set_same d k l i r h o w = ap (λ f. option_map_or (λ (x : Record). message_of x.slot) f []) (found_alone (λ (x : Record). waits d k x.tag) l i r h o w)
 
 added_waiting : (d : ℕ) (end : End) (n : ℕ) (s : Slot) (l : List Record) (i : ℕ) → FreeAt l i →
     waiting d (slice_set l i (record_of end n s)) ≡ waiting d l + cond (end_number end == d) 1 0
@@ -264,19 +277,6 @@ added_same end n s l i x u f =
 pub some_free : (end : End) (l : List Record) → waiting (end_number end) l < length l / 2 → ((d : ℕ) → waiting d l ≤ length l / 2) → 0 < unoccupied l
 some_free Zero l h w = omega (arith, all_records l, w 1)
 some_free One l h w = omega (arith, all_records l, w 0)
-
--- a new pile
-pub none_waiting : (e : ℕ) (l : List Record) → waiting e (map freed l) ≡ 0
-none_waiting e l = sum_over freed (λ r. cond (toward_end e r.tag) 1 0) (λ _. 0) (λ r. refl) l ∙ sum_none (λ _. 0) (λ r. refl) l
-
-pub new_numbered : (l : List Record) → Numbered (map freed l)
-new_numbered l e k =
-    let w = none_waiting e l in
-    let o : holders e k (map freed l) ≡ 0 = sum_over freed (λ r. cond (waits e k r.tag) 1 0) (λ _. 0) (λ r. refl) l ∙ sum_none (λ _. 0) (λ r. refl) l in
-    grind (arith, nat_tests)
-
-pub new_order : (e : ℕ) (l : List Record) → in_order e (map freed l) ≡ []
-new_order e l = ap (λ n. map (λ k. message_numbered e k (map freed l)) (range_with_len 0 n)) (none_waiting e l)
 
 -- what a pile means is sound
 pub pile_sound : (p : Pile) → Sound (pile_ways p)

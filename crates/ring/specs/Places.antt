@@ -2,7 +2,7 @@
 use Rattle.std.specs.Prelude.{◌≡◌, ℕ, ◌+◌, ◌<◌, ◌≤◌, ◌≢◌}
 use Rattle.std.proofs.Common.{arith}
 use Rattle.std.proofs.lemmas.Bool.Decides.{nat_tests}
-use Rattle.ring.specs.Turns.{wrap, place}
+use Rattle.ring.specs.Rounds.{wrap, place}
 
 pub place_below : (e n h k : ℕ) → e < 2 → h < n → k < n → place e n h k < n + n
 place_below e n h k i a b = grind (arith, nat_tests)

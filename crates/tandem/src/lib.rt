@@ -50,7 +50,7 @@ impl<A: Route, B: Route> Route for Tandem<A, B> {
     ghost sound = { λ s. sound_joined (A.Route.ways s.first) (B.Route.ways s.second) (A.Route.sound s.first) (B.Route.sound s.second) };
 
     fn put(&mut self, end: u32, message: &[u8]) -> Result<(), Fault> {
-        End::numbered(end)?;
+        End::try_from(end)?;
         check_length(message)?;
         self.make_room(end)?;
         self.first.put(end, message)
