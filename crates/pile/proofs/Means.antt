@@ -12,14 +12,15 @@ use Rattle.route.specs.declared.slot.Slot.{Slot}
 use Rattle.route.specs.Ends.{end_number}
 use Rattle.route.specs.Stored.{message_of}
 use Rattle.route.specs.Ways.{Ways, Messages, ways_of, without, oldest}
-use Rattle.route.specs.Queued.{queue, with_queue}
+use Rattle.route.specs.Queues.{queue, with_queue}
 use Rattle.pile.specs.declared.store.Pile.{Pile}
 use Rattle.pile.specs.Held.{pile_ways}
 use Rattle.route.proofs.Calls.{queue_of, changed_by}
 use Rattle.pile.specs.declared.records.Record.{Record}
 use Rattle.pile.specs.declared.records.Waiting.{Waiting}
 use Rattle.pile.specs.Numbers.{is_free, waits, unoccupied, FreeAt, waiting, holders, Numbered, in_order, with_moved_up}
-use Rattle.pile.specs.Queues.{record_of, length-order, at_order, some_oldest, no_oldest, found, removed_same, removed_other, added_same, added_other}
+use Rattle.pile.specs.Sound.{length-order, at_order, found}
+use Rattle.pile.proofs.Changes.{record_of, some_oldest, no_oldest, removed_same, removed_other, added_same, added_other}
 
 -- what records mean at a capacity
 abbrev pub means : List Record → ℕ → Ways

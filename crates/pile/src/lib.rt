@@ -5,7 +5,7 @@ ghost use Rattle.std.specs.Prelude.{◌≡◌, ◌/◌, ◌<◌, ◌≤◌, IfOk
 ghost use Rattle.message.specs.declared.fault.Refusal.TheVariants.{MemorySize};
 ghost use Rattle.route.specs.Ways.{empty_ways};
 ghost use Rattle.pile.specs.Held.{pile_ways};
-ghost use Rattle.pile.specs.Queues.{pile_sound};
+ghost use Rattle.pile.specs.Sound.{pile_sound};
 
 use message::fault::{Fault, Refusal};
 use records::Waiting;

@@ -14,7 +14,7 @@ use Rattle.ring.specs.declared.turns.Turns.{Turns}
 use Rattle.route.proofs.Calls.{queue_of, changed_by}
 use Rattle.route.specs.declared.end.End.{End}
 use Rattle.route.specs.Ends.{end_number}
-use Rattle.route.specs.Queued.{queue as waiting, with_queue}
+use Rattle.route.specs.Queues.{queue as waiting, with_queue}
 use Rattle.ring.specs.Turns.{message_at, turn, turns, queue, ring_ways}
 use Rattle.ring.specs.Rounds.{wrap, place, turns_of}
 use Rattle.ring.specs.Places.{place_below, place_apart, half_apart, place_next}

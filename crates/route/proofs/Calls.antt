@@ -5,7 +5,7 @@ use Rattle.message.specs.declared.fault.Refusal.TheVariants.{NoMessage}
 use Rattle.route.specs.declared.end.End.{End}
 use Rattle.route.specs.declared.end.End.TheVariants.{Zero, One}
 use Rattle.route.specs.Ends.{end_number}
-use Rattle.route.specs.Queued.{queue, with_queue}
+use Rattle.route.specs.Queues.{queue, with_queue}
 use Rattle.route.specs.Ways.{Ways, Sound, Messages, ways_of, toward, with_toward, message_sized, refused, fronted, oldest, without}
 use Rattle.route.specs.Ways.{put_answer, put_after, take_answer, take_buffer, take_after, lose_answer, lose_after}
 

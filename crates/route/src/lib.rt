@@ -12,8 +12,8 @@ use message::fault::Fault;
 
 pub mod checks;
 mod end;
+mod over_queues;
 mod passing;
-mod queued;
 mod queues;
 mod slot;
 mod storing;

@@ -9,6 +9,7 @@ use message::fault::Fault;
 use message::kind;
 
 // Puts a message toward an end, takes the oldest one there, and says whether the two are the same: on an empty way they are.
+#[tactic(auto, using(crate::proofs::Through::put_then_taken, crate::proofs::Through::put_then_refused))]
 pub fn pass<R: BenchRoute>(route: &mut R, end: u32, message: &[u8]) -> Result<bool, Fault>
     ensures answer { PassAnswer end message.now (R.Route.ways route.old) result }
     ensures through { toward end (R.Route.ways route.old) ≡ [] → IfOk result (λ same. IsTrue same) }

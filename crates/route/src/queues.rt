@@ -1,7 +1,7 @@
 // What keeps messages in slots, toward each end in the order in which they came.
 ghost use Rattle.std.specs.Prelude.{◌≡◌, ◌-◌, ◌<◌, [], ◌∷◌, ◌++◌, length, drop, IfSome, IfNone};
 ghost use Rattle.route.specs.Ways.{Ways, Sound, oldest, without};
-ghost use Rattle.route.specs.Queued.{queue, with_queue};
+ghost use Rattle.route.specs.Queues.{queue, with_queue};
 ghost use Rattle.route.specs.Stored.{message_of};
 
 use crate::end::End;

@@ -1,6 +1,6 @@
 use Rattle.std.proofs.Common.{◌≡◌, ◌/◌, None, Some, ap, ◌∙◌, arith}
 use Rattle.pile.specs.Numbers.{unoccupied}
-use Rattle.pile.specs.Queues.{some_free, added_within, added_numbered}
+use Rattle.pile.proofs.Changes.{some_free, added_within, added_numbered}
 use Rattle.pile.proofs.Means.{counted, added_means, free_found}
 use Rattle.pile.proofs.PileQueues.push.Goals as goal
 

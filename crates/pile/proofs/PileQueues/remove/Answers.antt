@@ -2,7 +2,7 @@ use Rattle.std.proofs.Common.{ℕ, ◌/◌, ◌<◌, ◌≤◌, List, sym, ap, �
 use Rattle.route.specs.Ends.{end_number}
 use Rattle.pile.specs.declared.records.Record.{Record}
 use Rattle.pile.specs.Numbers.{waiting, Numbered, with_moved_up}
-use Rattle.pile.specs.Queues.{removed_within, removed_numbered}
+use Rattle.pile.proofs.Changes.{removed_within, removed_numbered}
 use Rattle.pile.proofs.Loops.{written_over}
 use Rattle.pile.proofs.Means.{means, counted, removed_means}
 use Rattle.pile.proofs.PileQueues.remove.Goals as goal

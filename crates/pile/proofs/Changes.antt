@@ -1,5 +1,5 @@
 -- What becomes of the queues of a pile as a message comes or goes.
-use Rattle.std.specs.Prelude.{◌≡◌, ℕ, zero, suc, ◌+◌, ◌/◌, ◌<◌, ◌≤◌, Bool, true, false, cond, ◌&&◌, ◌≢◌, Option, None, Some, List, [], ◌∷◌, ◌++◌, map, length, get_or, take, drop, set, sum_by, count_by, find, MatchOption, ◌==◌, nat_lt, slice_index_or, slice_set, refl}
+use Rattle.std.specs.Prelude.{◌≡◌, ℕ, zero, suc, ◌+◌, ◌/◌, ◌<◌, ◌≤◌, Bool, true, false, cond, ◌&&◌, ◌≢◌, Option, None, Some, List, [], ◌∷◌, ◌++◌, map, length, get_or, take, drop, set, count_by, find, ◌==◌, nat_lt, slice_index_or, slice_set, refl}
 use Rattle.std.proofs.Common.{sym, ap, ◌∙◌, subst, ⊎_elim, arith, add-one}
 use Rattle.std.specs.List.{range_with_len, remove}
 use Rattle.std.proofs.lemmas.Bool.Decides.{nat_tests}
@@ -14,33 +14,11 @@ use Rattle.route.specs.declared.end.End.{End}
 use Rattle.route.specs.declared.end.End.TheVariants.{Zero, One}
 use Rattle.route.specs.declared.slot.Slot.{Slot}
 use Rattle.route.specs.Stored.{message_of}
-use Rattle.route.proofs.Slots.{sized}
-use Rattle.route.specs.Ways.{Messages, Sound, without}
-use Rattle.route.proofs.Calls.{sound_of}
-use Rattle.pile.specs.declared.store.Pile.{Pile}
-use Rattle.pile.specs.Held.{pile_ways}
+use Rattle.route.specs.Ways.{Messages, without}
 use Rattle.pile.specs.declared.records.Waiting.{Waiting}
 use Rattle.pile.specs.declared.records.Record.{Record}
 use Rattle.pile.specs.Numbers.{is_free, toward_end, waits, FreeAt, unoccupied, waiting, holders, Numbered, message_numbered, in_order, moved_up, with_moved_up}
-
--- sums over records that are changed, over two parts, and of ones
-sum_over : {X : Type 0} (f : X → X) (g h : X → ℕ) → ((x : X) → g (f x) ≡ h x) → (l : List X) → sum_by g (map f l) ≡ sum_by h l
-sum_over f g h e [] = refl
-sum_over f g h e (x ∷ l) =
-    let rest = sum_over f g h e l in
-    let here = e x in
-    omega (arith, sum_by-cons g (f x) (map f l), sum_by-cons h x l)
-
-sum_parts : {X : Type 0} (f g h : X → ℕ) → ((x : X) → f x + g x ≡ h x) → (l : List X) → sum_by f l + sum_by g l ≡ sum_by h l
-sum_parts f g h e [] = refl
-sum_parts f g h e (x ∷ l) =
-    let rest = sum_parts f g h e l in
-    let here = e x in
-    omega (arith, sum_by-cons f x l, sum_by-cons g x l, sum_by-cons h x l)
-
-sum_ones : {X : Type 0} (l : List X) → sum_by (λ _. 1) l ≡ length l
-sum_ones [] = refl
-sum_ones (x ∷ l) = let rest = sum_ones l in omega (arith, sum_by-cons (λ _. 1) x l)
+use Rattle.pile.specs.Sound.{length-order, at_order}
 
 -- one record counted anew
 count_set : (p : Record → Bool) (l : List Record) (i : ℕ) (r : Record) → i < length l → p (slice_index_or l i r) ≡ false → count_by p (slice_set l i r) ≡ count_by p l + cond (p r) 1 0
@@ -58,11 +36,12 @@ parts (Some w) = of w.end
     of One = refl
 
 all_records : (l : List Record) → waiting 0 l + waiting 1 l + unoccupied l ≡ length l
-all_records l =
-    let f : ℕ → Record → ℕ = λ e r. cond (toward_end e r.tag) 1 0 in
-    let free : Record → ℕ = λ r. cond (is_free r.tag) 1 0 in
-    ap (λ n. n + unoccupied l) (sum_parts (f 0) (f 1) (λ r. f 0 r + f 1 r) (λ r. refl) l)
-    ∙ sum_parts (λ r. f 0 r + f 1 r) free (λ _. 1) (λ r. parts r.tag) l ∙ sum_ones l
+all_records [] = refl
+all_records (r ∷ l) =
+    let rest = all_records l in
+    let here = parts r.tag in
+    let more = λ (p : Record → Bool). sum_by-cons (λ x. cond (p x) 1 0) r l in
+    omega (arith, more (λ x. toward_end 0 x.tag), more (λ x. toward_end 1 x.tag), more (λ x. is_free x.tag))
 
 -- the queue number that j was before the number k went, and how a record's use shows it
 abbrev before : ℕ → ℕ → ℕ
@@ -84,45 +63,12 @@ toward_other : (d e k : ℕ) (t : Option Waiting) → d ≢ e → toward_end d (
 toward_other d e k None h = refl
 toward_other d e k (Some w) h = grind (arith, nat_tests)
 
--- a queue has as many messages as wait, each at its number
-pub length-order : (e : ℕ) (l : List Record) → length (in_order e l) ≡ waiting e l
-length-order e l = length-map-range_with_len (λ k. message_numbered e k l) 0 (waiting e l)
-
-pub at_order : (e k : ℕ) (l : List Record) → k < waiting e l → slice_index_or (in_order e l) k [] ≡ message_numbered e k l
-at_order e k l h = get_or-map-range_with_len (λ j. message_numbered e j l) 0 (waiting e l) k k [] h (omega arith)
-
 -- a list of the messages by their numbers is the queue
 is_order : (e : ℕ) (l : List Record) (q : Messages) → length q ≡ waiting e l → ((k : ℕ) → k < waiting e l → slice_index_or q k [] ≡ message_numbered e k l) → q ≡ in_order e l
 is_order e l q n f = fill_by_all (λ k. message_numbered e k l) q (waiting e l) [] n f
 
 same_order : (e : ℕ) (l m : List Record) → waiting e m ≡ waiting e l → ((k : ℕ) → k < waiting e l → message_numbered e k m ≡ message_numbered e k l) → in_order e m ≡ in_order e l
 same_order e l m n f = is_order e l (in_order e m) (length-order e m ∙ n) (λ k h. at_order e k m (omega arith) ∙ f k h)
-
--- what is looked for among the records is found where one has it
-pub found : {X : Type 0} (p : X → Bool) (xs : List X) → MatchOption (find p xs) (count_by p xs ≡ 0) (λ _. 0 < count_by p xs)
-found p [] = refl
-found {X} p (x ∷ xs) = rw (sum_by-cons (λ y. cond (p y) 1 0) x xs) (go (p x) (find p xs) (count_by p xs) (found p xs))
-  where
-    go : (b : Bool) (o : Option X) (n : ℕ) → MatchOption o (n ≡ 0) (λ _. 0 < n) → MatchOption (cond b (Some x) o) (cond b 1 0 + n ≡ 0) (λ _. 0 < cond b 1 0 + n)
-    go true o n h = omega arith
-    go false None n h = omega arith
-    go false (Some y) n h = omega arith
-
--- each message has 1 to 268 octets
-sized-numbered : (e k : ℕ) (l : List Record) → 0 < holders e k l → (0 < length (message_numbered e k l)) × (length (message_numbered e k l) ≤ 268)
-sized-numbered e k l h = go (find (λ (r : Record). waits e k r.tag) l) (found (λ (r : Record). waits e k r.tag) l)
-  where
-    go : (o : Option Record) → MatchOption o (holders e k l ≡ 0) (λ _. 0 < holders e k l) →
-        (0 < length (option_map_or (λ (r : Record). message_of r.slot) o [])) × (length (option_map_or (λ (r : Record). message_of r.slot) o []) ≤ 268)
-    go None z = absurd (omega arith)
-    go (Some r) _ = sized r.slot
-
-pub sized-order : (e k : ℕ) (l : List Record) → Numbered l → k < length (in_order e l) → (0 < length (slice_index_or (in_order e l) k [])) × (length (slice_index_or (in_order e l) k []) ≤ 268)
-sized-order e k l u h =
-    let i : k < waiting e l = omega (arith, length-order e l) in
-    let some : 0 < holders e k l = let n = u e k in grind (arith, nat_tests) in
-    let P : List ℕ → Type 0 = λ m. (0 < length m) × (length m ≤ 268) in
-    subst P (sym (at_order e k l i)) (sized-numbered e k l some)
 
 -- the oldest message, if there is one
 pub some_oldest : (e : ℕ) (l : List Record) → Numbered l → 0 < holders e 0 l → 0 < waiting e l
@@ -146,20 +92,29 @@ numbered_over d j i e k (r ∷ l) w =
     go true false h o p same = absurd (true≢false h)
     go false true h o p same = absurd (false≢true h)
 
-holders_over : (d j i e k : ℕ) (l : List Record) → ((t : Option Waiting) → waits d j (moved_up e k t) ≡ waits d i t) → holders d j (map (with_moved_up e k) l) ≡ holders d i l
-holders_over d j i e k l w =
-    sum_over (with_moved_up e k) (λ r. cond (waits d j r.tag) 1 0) (λ r. cond (waits d i r.tag) 1 0) (λ r. ap (λ b. cond b 1 0) (w r.tag)) l
+count_over : (p q : Record → Bool) (f : Record → Record) → ((r : Record) → p (f r) ≡ q r) → (l : List Record) → count_by p (map f l) ≡ count_by q l
+count_over p q f h [] = refl
+count_over p q f h (r ∷ l) =
+    let rest = count_over p q f h l in
+    let here : ◌≡◌ {A = ℕ} (cond (p (f r)) 1 0) (cond (q r) 1 0) = ap (λ b. cond b 1 0) (h r) in
+    omega (arith, sum_by-cons (λ x. cond (p x) 1 0) (f r) (map f l), sum_by-cons (λ x. cond (q x) 1 0) r l)
 
-fewer : (e k : ℕ) (l : List Record) → Numbered l → k < waiting e l → waiting e (map (with_moved_up e k) l) + 1 ≡ waiting e l
-fewer e k l u h =
-    let one : holders e k l ≡ 1 = let n = u e k in grind (arith, nat_tests) in
-    let moved = sum_over (with_moved_up e k) (λ r. cond (toward_end e r.tag) 1 0) (λ r. cond (toward_end e (moved_up e k r.tag)) 1 0) (λ r. refl) l in
-    let both = sum_parts (λ (r : Record). cond (toward_end e (moved_up e k r.tag)) 1 0) (λ r. cond (waits e k r.tag) 1 0) (λ r. cond (toward_end e r.tag) 1 0) (λ r. toward_same e k r.tag) l in
-    omega arith
+holders_over : (d j i e k : ℕ) (l : List Record) → ((t : Option Waiting) → waits d j (moved_up e k t) ≡ waits d i t) → holders d j (map (with_moved_up e k) l) ≡ holders d i l
+holders_over d j i e k l w = count_over (λ r. waits d j r.tag) (λ r. waits d i r.tag) (with_moved_up e k) (λ r. w r.tag) l
 
 as_many : (d e k : ℕ) (l : List Record) → d ≢ e → waiting d (map (with_moved_up e k) l) ≡ waiting d l
-as_many d e k l h =
-    sum_over (with_moved_up e k) (λ r. cond (toward_end d r.tag) 1 0) (λ r. cond (toward_end d r.tag) 1 0) (λ r. ap (λ b. cond b 1 0) (toward_other d e k r.tag h)) l
+as_many d e k l h = count_over (λ r. toward_end d r.tag) (λ r. toward_end d r.tag) (with_moved_up e k) (λ r. toward_other d e k r.tag h) l
+
+all_but_gone : (e k : ℕ) (l : List Record) → waiting e (map (with_moved_up e k) l) + holders e k l ≡ waiting e l
+all_but_gone e k [] = refl
+all_but_gone e k (r ∷ l) =
+    let rest = all_but_gone e k l in
+    let here = toward_same e k r.tag in
+    let toward : Record → ℕ = λ x. cond (toward_end e x.tag) 1 0 in
+    omega (arith, sum_by-cons toward (with_moved_up e k r) (map (with_moved_up e k) l), sum_by-cons (λ (x : Record). cond (waits e k x.tag) 1 0) r l, sum_by-cons toward r l)
+
+fewer : (e k : ℕ) (l : List Record) → Numbered l → k < waiting e l → waiting e (map (with_moved_up e k) l) + 1 ≡ waiting e l
+fewer e k l u h = let one : holders e k l ≡ 1 = let n = u e k in grind (arith, nat_tests) in omega (arith, all_but_gone e k l)
 
 before_within : (j k n m : ℕ) → k < n → m + 1 ≡ n → ◌≡◌ {A = ℕ} (cond (nat_lt (before k j) n) 1 0) (cond (nat_lt j m) 1 0)
 before_within j k n m h e = grind (arith, nat_tests)
@@ -277,9 +232,3 @@ added_same end n s l i x u f =
 pub some_free : (end : End) (l : List Record) → waiting (end_number end) l < length l / 2 → ((d : ℕ) → waiting d l ≤ length l / 2) → 0 < unoccupied l
 some_free Zero l h w = omega (arith, all_records l, w 1)
 some_free One l h w = omega (arith, all_records l, w 0)
-
--- what a pile means is sound
-pub pile_sound : (p : Pile) → Sound (pile_ways p)
-pile_sound p =
-    let l = p.records.items in
-    sound_of (λ e. in_order e l) (p.records.len / 2) (omega (arith, p.some)) (λ e _. omega (arith, length-order e l, p.within e)) (λ e k _ h. sized-order e k l p.numbered h)
