@@ -1,26 +1,18 @@
 -- Two routes in a row: what each call to a part does to the whole.
-use Rattle.std.specs.Prelude.{◌≡◌, ℕ, ◌+◌, ◌-◌, ◌<◌, ◌≤◌, min, Bool, true, false, cond, ◌≢◌, List, [], ◌∷◌, ◌++◌, length, take, drop, is_ok, Ok, Err, Result, ◌==◌, slice_index_or, refl}
-use Rattle.std.proofs.Common.{append_assoc, sym, ap, ◌∙◌, subst, ⊎_elim, arith, length-append}
+use Rattle.std.specs.Prelude.{◌≡◌, ℕ, ◌+◌, ◌-◌, ◌<◌, ◌≤◌, min, Bool, true, false, cond, ◌≢◌, List, [], ◌∷◌, ◌++◌, length, take, drop, is_ok, Ok, Err, Result, ◌==◌, refl}
+use Rattle.std.proofs.Common.{append_assoc, sym, ap, ◌∙◌, ⊎_elim, arith}
 use Rattle.std.proofs.Math.Nat.{sub-zero}
 use Rattle.std.proofs.Math.Seq.{take-append-add, drop-append-add}
 use Rattle.std.proofs.lemmas.Bool.Decides.{nat_tests}
 use Rattle.std.proofs.lemmas.Bool.{cases_lt}
-use Rattle.std.proofs.lemmas.List.{get_or_append_left, get_or-append_right, drop-append-le, take-append-le, take_at, take_all, drop_all, append-nil, nil_from_length, drop_more}
+use Rattle.std.proofs.lemmas.List.{get_or_append_left, drop-append-le, take-append-le, take_at, take_all, drop_all, append-nil, nil_from_length, drop_more}
 use Rattle.message.specs.declared.fault.Fault.{Fault}
 use Rattle.message.specs.declared.fault.Refusal.TheVariants.{MessageLength, WayFull}
 use Rattle.route.specs.Ways.{Ways, Messages, Sound, toward, with_toward, joined, message_sized, refused, oldest, fronted, without, most}
 use Rattle.route.specs.Ways.{put_answer, put_after, take_answer, take_buffer, take_after, count_answer, room_answer, lose_answer, lose_after}
 use Rattle.route.proofs.Calls.{toward_same, with_same, put_fits, take_fits, take_none, lose_fits, lose_none}
 use Rattle.tandem.specs.Rooms.{RoomMade}
-
--- the lists of both
-toward-joined : (e : ℕ) (a b : Ways) → toward e (joined a b) ≡ toward e b ++ toward e a
-toward-joined e a b =
-    elim (e == 0) as (λ t. cond t (b.zero ++ a.zero) (b.one ++ a.one) ≡ cond t b.zero b.one ++ cond t a.zero a.one)
-    [ true ↦ refl | false ↦ refl ]
-
-length-joined : (e : ℕ) (a b : Ways) → length (toward e (joined a b)) ≡ length (toward e b) + length (toward e a)
-length-joined e a b = ap length (toward-joined e a b) ∙ length-append (toward e b) (toward e a)
+use Rattle.tandem.specs.Sound.{toward-joined, length-joined}
 
 -- another list toward an end, in one or in both
 with_both : (e : ℕ) (k l : Messages) (a b : Ways) → joined (with_toward e k a) (with_toward e l b) ≡ with_toward e (l ++ k) (joined a b)
@@ -35,30 +27,6 @@ with_first e k a b = ap (λ v. joined (with_toward e k a) v) (sym (with_same e b
 
 with_second : (e : ℕ) (l : Messages) (a b : Ways) → joined a (with_toward e l b) ≡ with_toward e (l ++ toward e a) (joined a b)
 with_second e l a b = ap (λ v. joined v (with_toward e l b)) (sym (with_same e a)) ∙ with_both e (toward e a) l a b
-
--- the law: messages of 1 to 268 octets, and the sum of two capacities
-abbrev Sized : Messages → Type 0
-Sized l = (k : ℕ) → k < length l → (0 < length (slice_index_or l k [])) × (length (slice_index_or l k []) ≤ 268)
-
-sized-append : (x y : Messages) → Sized x → Sized y → Sized (x ++ y)
-sized-append x y p q k h =
-    ⊎_elim
-    (λ (l : k < length x). rw (get_or_append_left x y [] k l) (p k l))
-    (λ (l : length x ≤ k). let n : k - length x < length y = omega (arith, length-append x y) in rw (get_or-append_right x y (length x) k [] refl l) (q (k - length x) n))
-    (cases_lt k (length x))
-
-sized-joined : (e : ℕ) (a b : Ways) → Sound a → Sound b → Sized (toward e (joined a b))
-sized-joined e a b p q =
-    subst Sized (sym (toward-joined e a b))
-    (sized-append (toward e b) (toward e a) (λ k h. (q.low e k h, q.high e k h)) (λ k h. (p.low e k h, p.high e k h)))
-
-pub sound_joined : (a b : Ways) → Sound a → Sound b → Sound (joined a b)
-sound_joined a b p q = record {
-  some = omega (arith, p.some);
-  within = (λ e. omega (arith, length-joined e a b, p.within e, q.within e));
-  low = (λ e k h. (sized-joined e a b p q k h).0);
-  high = (λ e k h. (sized-joined e a b p q k h).1);
-}
 
 -- COUNT and ROOM: the sums, as far as they can be answered
 count_ok : (e n : ℕ) (w : Ways) → Ok n ≡ count_answer e w → (e < 2) × (n ≡ min (length (toward e w)) most)
