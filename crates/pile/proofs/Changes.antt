@@ -3,7 +3,7 @@ use Rattle.std.specs.Prelude.{◌≡◌, ℕ, zero, suc, ◌+◌, ◌/◌, ◌<�
 use Rattle.std.proofs.Common.{sym, ap, ◌∙◌, subst, ⊎_elim, arith, add-one}
 use Rattle.std.specs.List.{range_with_len, remove}
 use Rattle.std.proofs.lemmas.Bool.Decides.{nat_tests}
-use Rattle.std.proofs.lemmas.Bool.{cases_lt, cases_eq, cases_Bool, cond-true, cond-false, true≢false, false≢true}
+use Rattle.std.proofs.lemmas.Bool.{cases_lt, cases_eq, cond-true, cond-false}
 use Rattle.std.proofs.lemmas.List.Sums.{sum_by-cons, sum_by-set}
 use Rattle.std.specs.Option.{option_map_or}
 use Rattle.std.proofs.lemmas.List.Folds.{find_past}
@@ -81,16 +81,15 @@ no_oldest e l u h = let n = u e 0 in grind (arith, nat_tests)
 numbered_over : (d j i e k : ℕ) (l : List Record) → ((t : Option Waiting) → waits d j (moved_up e k t) ≡ waits d i t) → message_numbered d j (map (with_moved_up e k) l) ≡ message_numbered d i l
 numbered_over d j i e k [] w = refl
 numbered_over d j i e k (r ∷ l) w =
-    go (waits d j (moved_up e k r.tag)) (waits d i r.tag) (w r.tag) (find (λ (x : Record). waits d j x.tag) (map (with_moved_up e k) l)) (find (λ (x : Record). waits d i x.tag) l) (numbered_over d j i e k l w)
+    ap (λ b. message (cond b (Some (with_moved_up e k r)) (find (λ (x : Record). waits d j x.tag) (map (with_moved_up e k) l)))) (w r.tag)
+    ∙ go (waits d i r.tag) _ _ (numbered_over d j i e k l w)
   where
     message : Option Record → List ℕ
     message o = option_map_or (λ (x : Record). message_of x.slot) o []
 
-    go : (b c : Bool) → b ≡ c → (o p : Option Record) → message o ≡ message p → message (cond b (Some (with_moved_up e k r)) o) ≡ message (cond c (Some r) p)
-    go true true h o p same = refl
-    go false false h o p same = same
-    go true false h o p same = absurd (true≢false h)
-    go false true h o p same = absurd (false≢true h)
+    go : (b : Bool) (o p : Option Record) → message o ≡ message p → message (cond b (Some (with_moved_up e k r)) o) ≡ message (cond b (Some r) p)
+    go true o p same = refl
+    go false o p same = same
 
 count_over : (p q : Record → Bool) (f : Record → Record) → ((r : Record) → p (f r) ≡ q r) → (l : List Record) → count_by p (map f l) ≡ count_by q l
 count_over p q f h [] = refl
@@ -166,10 +165,8 @@ found_alone p [] i y h n w = absurd (omega arith)
 found_alone p (x ∷ xs) zero y h n w = cond-true (p y) _ _ w
 found_alone p (x ∷ xs) (suc i) y h n w =
     let more = sum_by-cons (λ z. cond (p z) 1 0) x xs in
-    ⊎_elim
-    (λ (t : p x ≡ true). let one : ◌≡◌ {A = ℕ} (cond (p x) 1 0) 1 = cond-true (p x) 1 0 t in absurd (omega arith))
-    (λ (t : p x ≡ false). cond-false (p x) _ _ t ∙ found_alone p xs i y (omega arith) (omega arith) w)
-    (cases_Bool (p x))
+    let no : p x ≡ false = grind (arith, nat_tests) in
+    cond-false (p x) _ _ no ∙ found_alone p xs i y (omega arith) (omega arith) w
 
 numbered_set_same : (d k : ℕ) (l : List Record) (i : ℕ) (r : Record) → i < length l → holders d k l ≡ 0 → waits d k r.tag ≡ true → message_numbered d k (slice_set l i r) ≡ message_of r.slot
 numbered_set_same d k l i r h o w = ap (λ f. option_map_or (λ (x : Record). message_of x.slot) f []) (found_alone (λ (x : Record). waits d k x.tag) l i r h o w)

@@ -1,17 +1,13 @@
--- The steps and the ends of the loops over records.
-use Rattle.std.proofs.Common.{◌≡◌, ℕ, ◌+◌, ◌<◌, ◌≤◌, List, ◌++◌, map, length, get_or, take, drop, set, Vec, sym, ap, ◌∙◌}
+-- A loop over all records.
+use Rattle.std.proofs.Common.{◌≡◌, ℕ, ◌+◌, ◌<◌, List, ◌++◌, map, length, get_or, take, drop, set, Vec, sym, ap, ◌∙◌}
 use Rattle.std.specs.Vec.{with_items}
-use Rattle.std.proofs.lemmas.List.{with_items_is, length-map, take_all, drop_all, append-nil}
+use Rattle.std.proofs.lemmas.List.{with_items_is, length-map}
 use Rattle.std.proofs.lemmas.List.Edits.{map_over_more}
 
 -- a loop that writes f x over each element x
 pub over_more : {X : Type 0} (f : X → X) (xs ys : List X) (i : ℕ) (x y : X) → i < length xs → ys ≡ map f (take i xs) ++ drop i xs → x ≡ get_or ys i x → y ≡ f x →
     set ys i y ≡ map f (take (i + 1) xs) ++ drop (i + 1) xs
 over_more f xs ys i x y h inv is e = ap (λ v. set ys i v) e ∙ map_over_more f xs ys i x h inv is
-
-pub over_all : {X : Type 0} (f : X → X) (xs ys : List X) (i : ℕ) → length xs ≤ i → ys ≡ map f (take i xs) ++ drop i xs → ys ≡ map f xs
-over_all f xs ys i h inv =
-    inv ∙ ap (λ v. map f v ++ drop i xs) (take_all i xs h) ∙ ap (λ v. map f xs ++ v) (drop_all i xs h) ∙ append-nil (map f xs)
 
 -- a Vec whose elements such a loop has written over
 pub written_over : {X Z : Type 0} (v : Vec X Z) (ys xs : List X) (f : X → X) → ys ≡ map f xs → xs ≡ v.items → (with_items v ys).items ≡ map f v.items

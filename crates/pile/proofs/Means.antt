@@ -1,5 +1,5 @@
 -- What a pile means as it is new, and as a message comes or goes.
-use Rattle.std.proofs.Common.{◌≡◌, ℕ, ◌/◌, ◌<◌, Option, None, Some, option_map, MatchOption, find, position, Bool, true, refl, inl, inr, List, [], ◌∷◌, ◌++◌, map, length, set, sym, ap, ◌∙◌, arith}
+use Rattle.std.proofs.Common.{◌≡◌, ℕ, ◌/◌, ◌<◌, ◌≤◌, Option, None, Some, option_map, MatchOption, find, position, Bool, true, refl, inl, inr, List, [], ◌∷◌, ◌++◌, map, length, set, sym, ap, ◌∙◌, arith}
 use Rattle.std.specs.List.{position_or_len}
 use Rattle.std.specs.Option.{option_map_or}
 use Rattle.std.proofs.lemmas.Bool.{cases_lt, lt-ltb, le-ltb, false≢true}
@@ -29,6 +29,9 @@ means l n = ways_of (λ e. in_order e l) n
 -- how many messages wait toward an end
 pub counted : (p : Pile) (end : End) → length (queue end (pile_ways p)) ≡ waiting (end_number end) p.records.items
 counted p end = ap length (queue_of end (λ e. in_order e p.records.items) (p.records.len / 2)) ∙ length-order (end_number end) p.records.items
+
+pub fits : (p : Pile) (end : End) → length (queue end (pile_ways p)) ≤ p.records.len / 2
+fits p end = omega (arith, counted p end, p.within (end_number end))
 
 -- a message that goes, and one that comes
 pub removed_means : (end : End) (k : ℕ) (l : List Record) (n : ℕ) → Numbered l → k < waiting (end_number end) l →

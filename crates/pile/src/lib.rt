@@ -46,6 +46,7 @@ impl Queues for Pile {
         count_toward(&self.records, end)
     }
 
+    #[tactic(auto, using(crate::proofs::Means::fits))]
     fn spare(&self, end: End) -> usize {
         self.records.len() / 2 - self.waiting(end)
     }
