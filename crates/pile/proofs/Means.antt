@@ -35,13 +35,13 @@ fits p end = omega (arith, counted p end, p.within (end_number end))
 
 -- a message that goes, and one that comes
 pub removed_means : (end : End) (k : ℕ) (l : List Record) (n : ℕ) → Numbered l → k < waiting (end_number end) l →
-    means (map (with_moved_up (end_number end) k) l) n ≡ with_queue end (without k (queue end (means l n))) (means l n)
+    means (map (with_moved_up (end_number end) k) l) n ≡ with_queue end (without k) (means l n)
 removed_means end k l n u h =
     let e : ℕ = end_number end in
     changed_by end (without k) (λ d. in_order d l) (λ d. in_order d (map (with_moved_up e k) l)) n (removed_same e k l u h) (λ d _ z. removed_other d e k l z)
 
 pub added_means : (end : End) (k : ℕ) (s : Slot) (l : List Record) (i n : ℕ) → k ≡ waiting (end_number end) l → Numbered l → FreeAt l i →
-    means (set l i (record_of end k s)) n ≡ with_queue end (queue end (means l n) ++ (message_of s ∷ [])) (means l n)
+    means (set l i (record_of end k s)) n ≡ with_queue end (λ q. q ++ (message_of s ∷ [])) (means l n)
 added_means end k s l i n x u f =
     changed_by end (λ q. q ++ (message_of s ∷ [])) (λ d. in_order d l) (λ d. in_order d (set l i (record_of end k s))) n
     (added_same end k s l i x u f) (λ d _ z. added_other d end k s l i f z)

@@ -1,7 +1,7 @@
 // Queues in records that stand in no particular order, each with its end and its queue number.
 #![tactic(auto)]
 
-ghost use Rattle.std.specs.Prelude.{◌≡◌, ◌/◌, ◌<◌, ◌≤◌, IfOk, IfErr, vec_len};
+ghost use Rattle.std.specs.Prelude.{◌≡◌, ◌/◌, ◌<◌, ◌≤◌, ◌↔◌, IsOk, IfOk, IsErrOf, vec_len};
 ghost use Rattle.message.specs.declared.fault.Refusal.TheVariants.{MemorySize};
 ghost use Rattle.route.specs.Ways.{empty_ways};
 ghost use Rattle.pile.specs.Held.{pile_ways};
@@ -26,8 +26,9 @@ const FEWEST_RECORDS: usize = 2;
 impl Pile {
     // An empty pile in at least two records, which it makes free.
     pub fn new(mut records: Vec<Record>) -> Result<Pile, Fault>
-        ensures made { IfOk result (λ pile. (2 ≤ vec_len records) × (pile_ways pile ≡ empty_ways (vec_len records / 2))) }
-        ensures refused { IfErr result (λ fault. (vec_len records < 2) × (fault ≡ record { refusal = MemorySize; place = 0 })) }
+        ensures made { IsOk result ↔ (2 ≤ vec_len records) }
+        ensures empty { IfOk result (λ pile. pile_ways pile ≡ empty_ways (vec_len records / 2)) }
+        ensures refused { IsErrOf result (record { refusal = MemorySize; place = 0 }) ↔ (vec_len records < 2) }
     {
         if records.len() < FEWEST_RECORDS {
             return Err(Refusal::MemorySize.at(0));

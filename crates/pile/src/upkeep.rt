@@ -18,7 +18,8 @@ pub(crate) fn count_toward(records: &[Record], end: End) -> usize
 
 // The slot of the oldest message toward an end, if one waits there.
 pub(crate) fn oldest_toward(records: &[Record], end: End) -> Option<Slot>
-    ensures { result ≡ option_map (λ r. r.slot) (find (λ r. waits (end_number end) 0 r.tag) records.now) }
+    ensures { let oldest = find (λ r. waits (end_number end) 0 r.tag) records.now in
+        result ≡ option_map (λ r. r.slot) oldest }
 {
     records
         .iter()

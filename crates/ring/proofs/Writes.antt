@@ -101,7 +101,7 @@ pub written : (end : End) (F : Messages → Messages) (r s : Ring) (l : List Slo
     turns l (end_number end) s.capacity u.oldest u.count ≡ F (queue r (end_number end)) →
     ((d : ℕ) → d < 2 → d ≢ end_number end → turns l d s.capacity (turns_of s.ends d).oldest (turns_of s.ends d).count ≡ queue r d) →
     ways_of (λ d. turns l d s.capacity (turns_of (slice_set s.ends i u) d).oldest (turns_of (slice_set s.ends i u) d).count) s.capacity
-    ≡ with_queue end (F (waiting end (ring_ways r))) (ring_ways r)
+    ≡ with_queue end F (ring_ways r)
 written end F r s l i u is h cap same others =
     let none : Turns = record { oldest = 0; count = 0 } in
     let g : Turns → ℕ → Messages = λ t d. turns l d s.capacity t.oldest t.count in

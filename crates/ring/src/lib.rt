@@ -1,7 +1,7 @@
 // Queues in slots that are used in turn: what is put or taken touches one slot, however many there are.
 #![tactic(auto)]
 
-ghost use Rattle.std.specs.Prelude.{◌≡◌, ◌+◌, ◌/◌, ◌<◌, ◌≤◌, IfOk, IfErr, vec_len};
+ghost use Rattle.std.specs.Prelude.{◌≡◌, ◌+◌, ◌/◌, ◌<◌, ◌≤◌, ◌↔◌, IsOk, IfOk, IsErrOf, vec_len};
 ghost use Rattle.message.specs.declared.fault.Refusal.TheVariants.{MemorySize};
 ghost use Rattle.route.specs.Ends.{end_number};
 ghost use Rattle.route.specs.Ways.{empty_ways};
@@ -21,8 +21,9 @@ pub use ring::Ring;
 impl Ring {
     // An empty ring. Half of the slots, rounded down, is the capacity toward each end.
     pub fn new(slots: Vec<Slot>) -> Result<Ring, Fault>
-        ensures made { IfOk result (λ ring. (2 ≤ vec_len slots) × (ring_ways ring ≡ empty_ways (vec_len slots / 2))) }
-        ensures refused { IfErr result (λ fault. (vec_len slots < 2) × (fault ≡ record { refusal = MemorySize; place = 0 })) }
+        ensures made { IsOk result ↔ (2 ≤ vec_len slots) }
+        ensures empty { IfOk result (λ ring. ring_ways ring ≡ empty_ways (vec_len slots / 2)) }
+        ensures refused { IsErrOf result (record { refusal = MemorySize; place = 0 }) ↔ (vec_len slots < 2) }
     {
         let capacity = slots.len() / 2;
         if capacity == 0 {
@@ -61,7 +62,8 @@ impl Ring {
     // The slot of a turn toward an end, 0 being the oldest message's.
     fn place(&self, end: End, turn: usize) -> usize
         requires { turn < self.now.capacity }
-        ensures value { result ≡ place (end_number end) self.now.capacity (turns_of self.now.ends (end_number end)).oldest turn }
+        ensures value { let e = end_number end in
+            result ≡ place e self.now.capacity (turns_of self.now.ends e).oldest turn }
         ensures below { result < vec_len self.now.slots }
     {
         let at = self.turns(end).oldest + turn;

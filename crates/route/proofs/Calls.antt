@@ -21,7 +21,7 @@ queue_of One f n = refl
 
 -- a route of which the messages toward an end are changed, and the others are not
 pub changed_by : (end : End) (F : Messages → Messages) (f g : ℕ → Messages) (n : ℕ) → g (end_number end) ≡ F (f (end_number end)) →
-    ((d : ℕ) → d < 2 → d ≢ end_number end → g d ≡ f d) → ways_of g n ≡ with_queue end (F (queue end (ways_of f n))) (ways_of f n)
+    ((d : ℕ) → d < 2 → d ≢ end_number end → g d ≡ f d) → ways_of g n ≡ with_queue end F (ways_of f n)
 changed_by Zero F f g n same others =
     ap (λ (l : Messages). record { zero = l; one = g 1; capacity = n }) same
     ∙ ap (λ (l : Messages). record { zero = F (f 0); one = l; capacity = n }) (others 1 (lit< tt) (λ z. omega arith))

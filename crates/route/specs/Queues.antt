@@ -7,6 +7,6 @@ use Rattle.route.specs.declared.end.End.{End}
 abbrev pub queue : End → Ways → Messages
 queue end w = toward (end_number end) w
 
--- the same route with other messages toward an end
-abbrev pub with_queue : End → Messages → Ways → Ways
-with_queue end l w = with_toward (end_number end) l w
+-- the same route with a change of the messages toward an end
+abbrev pub with_queue : End → (Messages → Messages) → Ways → Ways
+with_queue end change w = with_toward (end_number end) (change (queue end w)) w

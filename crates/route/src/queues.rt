@@ -22,19 +22,20 @@ pub trait Queues {
     // Adds a message behind those toward an end.
     fn push(&mut self, end: End, slot: Slot)
         requires { length (queue end (ways self.old)) < (ways self.old).capacity }
-        ensures { ways self.new ≡ with_queue end (queue end (ways self.old) ++ message_of slot ∷ []) (ways self.old) };
+        ensures { ways self.new ≡ with_queue end (λ q. q ++ message_of slot ∷ []) (ways self.old) };
 
     // Takes the oldest message toward an end.
     fn pop(&mut self, end: End) -> Option<Slot>
-        ensures none { IfNone result ((queue end (ways self.old) ≡ []) × (ways self.new ≡ ways self.old)) }
+        ensures none { IfNone result (queue end (ways self.old) ≡ []) }
+        ensures same { IfNone result (ways self.new ≡ ways self.old) }
         ensures some { IfSome result (λ _. 0 < length (queue end (ways self.old))) }
         ensures oldest { IfSome result (λ slot. message_of slot ≡ oldest (queue end (ways self.old))) }
-        ensures rest { IfSome result (λ _. ways self.new ≡ with_queue end (drop 1 (queue end (ways self.old))) (ways self.old)) };
+        ensures rest { IfSome result (λ _. ways self.new ≡ with_queue end (drop 1) (ways self.old)) };
 
     // Removes the message at a position toward an end, 0 being the oldest.
     fn remove(&mut self, end: End, position: usize)
         requires { position < length (queue end (ways self.old)) }
-        ensures { ways self.new ≡ with_queue end (without position (queue end (ways self.old))) (ways self.old) };
+        ensures { ways self.new ≡ with_queue end (without position) (ways self.old) };
 
     ghost sound: { (s : Self) → Sound (ways s) };
 }

@@ -31,7 +31,9 @@ impl<A: Route, B: Route> Tandem<A, B> {
     // Sees that the first has room: where it is full and the second is not, its oldest message moves on.
     #[tactic(auto, using(crate::proofs::Rows::room_first, crate::proofs::Rows::room_none))]
     fn make_room(&mut self, end: u32) -> Result<(), Fault>
-        ensures { RoomMade end result (A.Route.ways self.old.first) (B.Route.ways self.old.second) (A.Route.ways self.new.first) (B.Route.ways self.new.second) }
+        ensures { RoomMade end result
+            (A.Route.ways self.old.first) (B.Route.ways self.old.second)
+            (A.Route.ways self.new.first) (B.Route.ways self.new.second) }
     {
         if self.first.room(end)? > 0 {
             return Ok(());
