@@ -17,8 +17,8 @@ use Rattle.route.specs.Ends.{end_number}
 use Rattle.route.specs.Queues.{queue as waiting, with_queue}
 use Rattle.ring.specs.Turns.{message_at, turn, turns, queue, ring_ways}
 use Rattle.ring.specs.Rounds.{wrap, place, turns_of}
-use Rattle.ring.specs.Places.{place_below, place_apart, half_apart, place_next}
-use Rattle.ring.specs.Sound.{length-turns, at_turns}
+use Rattle.ring.specs.Sound.{length-turns, at_turns, place_below}
+use Rattle.ring.proofs.Places.{place_apart, half_apart, place_next}
 
 -- how many messages wait toward an end
 pub counted : (r : Ring) (end : End) → length (waiting end (ring_ways r)) ≡ (turns_of r.ends (end_number end)).count

@@ -1,4 +1,3 @@
 pub mod Rounds
 pub mod Turns
-pub mod Places
 pub mod Sound

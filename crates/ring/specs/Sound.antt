@@ -9,13 +9,16 @@ use Rattle.ring.specs.declared.ring.Ring.{Ring}
 use Rattle.route.proofs.Calls.{sound_of}
 use Rattle.ring.specs.Turns.{message_at, turn, turns, queue, ring_ways}
 use Rattle.ring.specs.Rounds.{place, turns_of}
-use Rattle.ring.specs.Places.{place_below}
+use Rattle.std.proofs.lemmas.Bool.Decides.{nat_tests}
 
 pub length-turns : (l : List Slot) (e n h c : ℕ) → length (turns l e n h c) ≡ c
 length-turns l e n h c = length-map-range_with_len (turn l e n h) 0 c
 
 pub at_turns : (l : List Slot) (e n h c k : ℕ) → k < c → slice_index_or (turns l e n h c) k [] ≡ turn l e n h k
 at_turns l e n h c k i = get_or-map-range_with_len (turn l e n h) 0 c k k [] i (omega arith)
+
+pub place_below : (e n h k : ℕ) → e < 2 → h < n → k < n → place e n h k < n + n
+place_below e n h k i a b = grind (arith, nat_tests)
 
 -- each message has 1 to 268 octets
 sized_at : (l : List Slot) (p : ℕ) → p < length l → (0 < length (message_at l p)) × (length (message_at l p) ≤ 268)

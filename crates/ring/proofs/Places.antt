@@ -4,9 +4,6 @@ use Rattle.std.proofs.Common.{arith}
 use Rattle.std.proofs.lemmas.Bool.Decides.{nat_tests}
 use Rattle.ring.specs.Rounds.{wrap, place}
 
-pub place_below : (e n h k : ℕ) → e < 2 → h < n → k < n → place e n h k < n + n
-place_below e n h k i a b = grind (arith, nat_tests)
-
 pub place_apart : (e n h j k : ℕ) → h < n → j < n → k < n → j ≢ k → place e n h j ≢ place e n h k
 place_apart e n h j k a b c d z = grind (arith, nat_tests)
 
