@@ -29,14 +29,10 @@ impl Ring {
         if capacity == 0 {
             return Err(Refusal::MemorySize.at(0));
         }
-        let none = Turns {
-            oldest: 0,
-            count: 0,
-        };
         Ok(Ring {
             slots,
             capacity,
-            ends: [none, none],
+            ends: [Turns::default(); 2],
         })
     }
 
