@@ -1,70 +1,87 @@
 -- What a pile means as it is new, and as a message comes or goes.
-use Rattle.std.proofs.Common.{◌≡◌, ℕ, ◌<◌, ◌≤◌, List, [], ◌∷◌, ◌++◌, map, length, set, sym, ap, ◌∙◌, subst, arith}
+use Rattle.std.proofs.Common.{◌≡◌, ℕ, ◌/◌, ◌<◌, ◌≤◌, Option, None, Some, option_map, MatchOption, find, position, Bool, true, refl, inl, inr, List, [], ◌∷◌, ◌++◌, map, length, set, sym, ap, ◌∙◌, arith}
+use Rattle.std.specs.List.{position_or_len}
+use Rattle.std.specs.Option.{option_map_or}
+use Rattle.std.proofs.lemmas.Bool.{cases_lt, lt-ltb, le-ltb, false≢true}
+use Rattle.std.proofs.lemmas.List.{nil_from_length}
+use Rattle.std.proofs.lemmas.List.Sums.{passes_at_first}
+use Rattle.std.proofs.lemmas.List.Folds.{find_at}
+use Rattle.std.proofs.lemmas.Option.{slice_get_past, MatchOption-at_none}
 use Rattle.route.specs.declared.end.End.{End}
-use Rattle.route.specs.declared.end.End.TheVariants.{Zero, One}
 use Rattle.route.specs.declared.slot.Slot.{Slot}
 use Rattle.route.specs.Ends.{end_number}
 use Rattle.route.specs.Stored.{message_of}
-use Rattle.route.specs.Ways.{Ways, Messages, ways_of, empty_ways, toward, with_toward, without, oldest}
-use Rattle.route.proofs.Calls.{toward_of, changed_by}
+use Rattle.route.specs.Ways.{Ways, Messages, ways_of, without, oldest}
+use Rattle.route.specs.Queues.{queue, with_queue}
+use Rattle.pile.specs.declared.store.Pile.{Pile}
+use Rattle.pile.specs.Held.{pile_ways}
+use Rattle.route.proofs.Calls.{queue_of, changed_by}
 use Rattle.pile.specs.declared.records.Record.{Record}
-use Rattle.pile.specs.Numbers.{FreeAt, waiting, holders, Numbered, message_numbered, in_order, with_moved_up, freed}
-use Rattle.pile.specs.Queues.{record_of, length-order, at_order, some_oldest, no_oldest, removed_same, removed_other, added_same, added_other, new_order}
+use Rattle.pile.specs.declared.records.Waiting.{Waiting}
+use Rattle.pile.specs.Numbers.{is_free, waits, unoccupied, FreeAt, waiting, holders, Numbered, in_order, with_moved_up}
+use Rattle.pile.specs.Sound.{length-order, at_order, found}
+use Rattle.pile.proofs.Changes.{record_of, some_oldest, no_oldest, removed_same, removed_other, added_same, added_other}
 
 -- what records mean at a capacity
 abbrev pub means : List Record → ℕ → Ways
 means l n = ways_of (λ e. in_order e l) n
 
--- the two ends, and the list toward each
-pub two_ends : (end : End) → end_number end < 2
-two_ends Zero = omega arith
-two_ends One = omega arith
+-- how many messages wait toward an end
+pub counted : (p : Pile) (end : End) → length (queue end (pile_ways p)) ≡ waiting (end_number end) p.records.items
+counted p end = ap length (queue_of end (λ e. in_order e p.records.items) (p.records.len / 2)) ∙ length-order (end_number end) p.records.items
 
-pub toward_means : (end : End) (l : List Record) (n : ℕ) → toward (end_number end) (means l n) ≡ in_order (end_number end) l
-toward_means end l n = toward_of (end_number end) (λ e. in_order e l) n (two_ends end)
+pub fits : (p : Pile) (end : End) → length (queue end (pile_ways p)) ≤ p.records.len / 2
+fits p end = omega (arith, counted p end, p.within (end_number end))
 
-pub counted : (end : End) (l : List Record) (n : ℕ) → length (toward (end_number end) (means l n)) ≡ waiting (end_number end) l
-counted end l n = ap length (toward_means end l n) ∙ length-order (end_number end) l
-
--- a new pile, a message that goes, and one that comes
-pub new_means : (l : List Record) (n : ℕ) → means (map freed l) n ≡ empty_ways n
-new_means l n =
-    ap (λ (q : Messages). record { zero = q; one = in_order 1 (map freed l); capacity = n }) (new_order 0 l)
-    ∙ ap (λ (q : Messages). record { zero = []; one = q; capacity = n }) (new_order 1 l)
-
+-- a message that goes, and one that comes
 pub removed_means : (end : End) (k : ℕ) (l : List Record) (n : ℕ) → Numbered l → k < waiting (end_number end) l →
-    means (map (with_moved_up (end_number end) k) l) n ≡ with_toward (end_number end) (without k (toward (end_number end) (means l n))) (means l n)
+    means (map (with_moved_up (end_number end) k) l) n ≡ with_queue end (without k) (means l n)
 removed_means end k l n u h =
     let e : ℕ = end_number end in
-    let m : List Record = map (with_moved_up e k) l in
-    changed_by e (without k) (λ d. in_order d l) (λ d. in_order d m) n (two_ends end) (removed_same e k l u h) (λ d _ z. removed_other d e k l z)
+    changed_by end (without k) (λ d. in_order d l) (λ d. in_order d (map (with_moved_up e k) l)) n (removed_same e k l u h) (λ d _ z. removed_other d e k l z)
 
 pub added_means : (end : End) (k : ℕ) (s : Slot) (l : List Record) (i n : ℕ) → k ≡ waiting (end_number end) l → Numbered l → FreeAt l i →
-    means (set l i (record_of end k s)) n ≡ with_toward (end_number end) (toward (end_number end) (means l n) ++ (message_of s ∷ [])) (means l n)
+    means (set l i (record_of end k s)) n ≡ with_queue end (λ q. q ++ (message_of s ∷ [])) (means l n)
 added_means end k s l i n x u f =
-    let e : ℕ = end_number end in
-    let m : List Record = set l i (record_of end k s) in
-    changed_by e (λ q. q ++ (message_of s ∷ [])) (λ d. in_order d l) (λ d. in_order d m) n (two_ends end) (added_same end k s l i x u f) (λ d _ z. added_other d end k s l i f z)
+    changed_by end (λ q. q ++ (message_of s ∷ [])) (λ d. in_order d l) (λ d. in_order d (set l i (record_of end k s))) n
+    (added_same end k s l i x u f) (λ d _ z. added_other d end k s l i f z)
 
--- what the loops over the records found, as the route has it
-pub count_is : (end : End) (e : ℕ) (l s : List Record) (n x : ℕ) → end_number end ≡ e → s ≡ l → x ≡ waiting (end_number end) s → x ≡ length (toward e (means l n))
-count_is end e l s n x h a c = c ∙ ap (λ v. waiting (end_number end) v) a ∙ sym (counted end l n) ∙ ap (λ d. length (toward d (means l n))) h
+-- the oldest message, found by its queue number
+pub oldest_found : (p : Pile) (end : End) (l : List Record) (o : Option Slot) → l ≡ p.records.items → o ≡ option_map (λ (r : Record). r.slot) (find (λ (r : Record). waits (end_number end) 0 r.tag) l) →
+    MatchOption o (queue end (pile_ways p) ≡ []) (λ s. (0 < length (queue end (pile_ways p))) × (message_of s ≡ oldest (queue end (pile_ways p))))
+oldest_found p end s o same is = rw (is, same) (go (find test l) refl (found test l))
+  where
+    e : ℕ
+    e = end_number end
 
-pub at_most : (e : ℕ) (l s : List Record) (x n c : ℕ) → s ≡ l → x ≡ waiting e s → n ≡ c → ((d : ℕ) → waiting d l ≤ c) → x ≤ n
-at_most e l s x n c a b h w = let y : x ≡ waiting e l = b ∙ ap (λ v. waiting e v) a in omega (arith, w e)
+    l : List Record
+    l = p.records.items
 
-pub oldest_is : (end : End) (e : ℕ) (l s : List Record) (n : ℕ) (m : List ℕ) → end_number end ≡ e → s ≡ l → Numbered l →
-    (0 < holders (end_number end) 0 s) × (m ≡ message_numbered (end_number end) 0 s) → (0 < length (toward e (means l n))) × (m ≡ oldest (toward e (means l n)))
-oldest_is end e l s n m h a u c =
-    let d : ℕ = end_number end in
-    let some : 0 < waiting d l = some_oldest d l u (subst (λ v. 0 < holders d 0 v) a c.0) in
-    let P : ℕ → Type 0 = λ b. (0 < length (toward b (means l n))) × (m ≡ oldest (toward b (means l n))) in
-    subst P h (
-      omega (arith, counted end l n),
-      c.1 ∙ ap (λ v. message_numbered d 0 v) a ∙ sym (at_order d 0 l some) ∙ ap oldest (sym (toward_means end l n)),
-    )
+    test : Record → Bool
+    test r = waits e 0 r.tag
 
-pub none_is : (end : End) (e : ℕ) (l s : List Record) (n : ℕ) → end_number end ≡ e → s ≡ l → Numbered l → holders (end_number end) 0 s ≡ 0 → length (toward e (means l n)) ≡ 0
-none_is end e l s n h a u c =
-    let d : ℕ = end_number end in
-    ap (λ b. length (toward b (means l n))) (sym h) ∙ counted end l n ∙ no_oldest d l u (ap (λ v. holders d 0 v) (sym a) ∙ c)
+    q : Messages
+    q = queue end (pile_ways p)
+
+    go : (f : Option Record) → find test l ≡ f → MatchOption f (holders e 0 l ≡ 0) (λ _. 0 < holders e 0 l) →
+        MatchOption (option_map (λ (r : Record). r.slot) f) (q ≡ []) (λ s. (0 < length q) × (message_of s ≡ oldest q))
+    go None h none = nil_from_length q (counted p end ∙ no_oldest e l p.numbered none)
+    go (Some r) h some =
+        let there = some_oldest e l p.numbered some in (
+          omega (arith, counted p end),
+          ap (λ (f : Option Record). option_map_or (λ (x : Record). message_of x.slot) f []) (sym h) ∙ sym (at_order e 0 l there) ∙ ap oldest (sym (queue_of end (λ d. in_order d l) (p.records.len / 2))),
+        )
+
+-- a free record, found by its place
+pub free_found : (l s : List Record) (o : Option ℕ) → s ≡ l → o ≡ position (λ (r : Record). is_free r.tag) s → MatchOption o (unoccupied l ≡ 0) (FreeAt l)
+free_found l s o same is = rw (is, same) (elim (cases_lt (position_or_len test l) (length l)) [
+  | inl h ↦ rw (lt-ltb _ _ h) (h, (λ d. free _ (passes_at_first test l d h)))
+  | inr h ↦ rw (le-ltb _ _ h) (MatchOption-at_none _ _ (find_at test l ∙ slice_get_past l (position_or_len test l) h) (found test l))
+])
+  where
+    test : Record → Bool
+    test r = is_free r.tag
+
+    free : (t : Option Waiting) → is_free t ≡ true → t ≡ None
+    free None h = refl
+    free (Some w) h = absurd (false≢true h)

@@ -1,3 +1,3 @@
 pub mod Numbers
 pub mod Held
-pub mod Queues
+pub mod Sound

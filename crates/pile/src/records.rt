@@ -1,16 +1,16 @@
 // The records of a pile.
 use route::{End, Slot};
 
-// What a record is used for. The queue number tells the order of the messages toward an end: 0 is the oldest.
-#[derive(Clone, Copy)]
-pub enum Tag {
-    Free,
-    Waiting { end: End, number: usize },
+// A message waits toward an end. Its queue number tells the order there: 0 is the oldest.
+#[derive(Clone, Copy, PartialEq, Eq)]
+pub struct Waiting {
+    pub(crate) end: End,
+    pub(crate) number: usize,
 }
 
-// Room for one message, and what it is used for.
+// Room for one message, and what waits in it: nothing where the record is free.
 #[derive(Clone, Copy)]
 pub struct Record {
-    pub(crate) tag: Tag,
+    pub(crate) tag: Option<Waiting>,
     pub(crate) slot: Slot,
 }

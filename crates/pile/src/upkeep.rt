@@ -1,63 +1,44 @@
 // All records in turn.
-ghost use Rattle.std.specs.Prelude.{◌≡◌, ◌<◌, map, MatchOption};
+ghost use Rattle.std.specs.Prelude.{◌≡◌, map, find, position, option_map};
 ghost use Rattle.route.specs.Ends.{end_number};
-ghost use Rattle.route.specs.Stored.{message_of};
-ghost use Rattle.pile.specs.Numbers.{FreeAt, unoccupied, waiting, holders, message_numbered, freed, with_moved_up};
+ghost use Rattle.pile.specs.Numbers.{is_free, waits, waiting, with_moved_up};
 
-use crate::records::{Record, Tag};
+use crate::records::Record;
 use route::{End, Slot};
 
 // How many messages wait toward an end.
 pub(crate) fn count_toward(records: &[Record], end: End) -> usize
     ensures { result ≡ waiting (end_number end) records.now }
 {
-    let mut count = 0;
-    for record in records {
-        if record.tag.is_toward(end) {
-            count += 1;
-        }
-    }
-    count
+    records
+        .iter()
+        .filter(|record| record.is_toward(end))
+        .count()
 }
 
-// The slot of the oldest message toward an end.
+// The slot of the oldest message toward an end, if one waits there.
 pub(crate) fn oldest_toward(records: &[Record], end: End) -> Option<Slot>
-    ensures { MatchOption result (holders (end_number end) 0 records.now ≡ 0) (λ s. (0 < holders (end_number end) 0 records.now) × (message_of s ≡ message_numbered (end_number end) 0 records.now)) }
+    ensures { let oldest = find (λ r. waits (end_number end) 0 r.tag) records.now in
+        result ≡ option_map (λ r. r.slot) oldest }
 {
-    for record in records {
-        if record.tag.is_oldest(end) {
-            return Some(record.slot);
-        }
-    }
-    None
+    records
+        .iter()
+        .find(|record| record.is_oldest(end))
+        .map(|record| record.slot)
 }
 
-// The place of the first free record.
-pub(crate) fn free_place(records: &[Record]) -> usize
-    requires { 0 < unoccupied records.now }
-    ensures { FreeAt records.now result }
+// The place of the first free record, if one is free.
+pub(crate) fn free_place(records: &[Record]) -> Option<usize>
+    ensures { result ≡ position (λ r. is_free r.tag) records.now }
 {
-    let mut place = 0;
-    while !records[place].tag.is_free() {
-        place += 1;
-    }
-    place
+    records.iter().position(|record| record.is_free())
 }
 
-// Removes the message with a queue number toward an end: those behind it move up.
-pub(crate) fn remove(records: &mut [Record], end: End, number: usize)
-    ensures { records.new ≡ map (with_moved_up (end_number end) number) records.old }
+// The message with a queue number toward an end goes: those behind it move up.
+pub(crate) fn move_up(records: &mut [Record], end: End, gone: usize)
+    ensures { records.new ≡ map (with_moved_up (end_number end) gone) records.old }
 {
     for record in records.iter_mut() {
-        record.tag = record.tag.moved_up(end, number);
-    }
-}
-
-// Makes all records free.
-pub(crate) fn clear(records: &mut [Record])
-    ensures { records.new ≡ map freed records.old }
-{
-    for record in records.iter_mut() {
-        record.tag = Tag::Free;
+        record.move_up(end, gone);
     }
 }

@@ -1,3 +1,3 @@
+pub mod Rounds
 pub mod Turns
-pub mod Queues
-pub mod Places
+pub mod Sound

@@ -1,18 +1,11 @@
 -- What a ring holds: the messages in its slots, in turn.
-use Rattle.std.specs.Prelude.{ℕ, ◌+◌, ◌-◌, ◌*◌, cond, List, [], map, vec_items, nat_lt, slice_index, slice_index_or}
+use Rattle.std.specs.Prelude.{ℕ, List, [], map, vec_items, slice_index_or}
 use Rattle.std.specs.List.{range_with_len}
 use Rattle.route.specs.declared.slot.Slot.{Slot}
 use Rattle.route.specs.Ways.{Messages, Ways, ways_of}
 use Rattle.route.specs.Stored.{message_of}
 use Rattle.ring.specs.declared.ring.Ring.{Ring}
-
--- the place x in a round of n
-abbrev pub wrap : ℕ → ℕ → ℕ
-wrap n x = cond (nat_lt x n) x (x - n)
-
--- the slot of the turn k toward the end e: every second slot is that end's, n in a round, and its turns begin at the place h of the round
-abbrev pub place : ℕ → ℕ → ℕ → ℕ → ℕ
-place e n h k = 2 * wrap n (h + k) + e
+use Rattle.ring.specs.Rounds.{place, turns_of}
 
 -- the message in a slot
 abbrev pub message_at : List Slot → ℕ → List ℕ
@@ -28,7 +21,7 @@ turns l e n h c = map (turn l e n h) (range_with_len 0 c)
 
 -- the messages toward the end e
 abbrev pub queue : Ring → ℕ → Messages
-queue r e = turns (vec_items r.slots) e r.capacity (slice_index r.oldest e) (slice_index r.count e)
+queue r e = turns (vec_items r.slots) e r.capacity (turns_of r.ends e).oldest (turns_of r.ends e).count
 
 -- what a ring means
 abbrev pub ring_ways : Ring → Ways

@@ -1,26 +1,33 @@
 -- What each call does where it is accepted, and where a list is full or empty, in plain facts.
-use Rattle.std.proofs.Common.{◌≡◌, ℕ, zero, suc, ◌-◌, ◌<◌, ◌≤◌, min, Bool, true, false, cond, eqb, ◌≢◌, List, [], ◌∷◌, ◌++◌, length, get_or, drop, Ok, sym, refl, ap, ◌∙◌, arith, lit<}
+use Rattle.std.proofs.Common.{◌≡◌, ℕ, zero, suc, ◌<◌, ◌≤◌, Bool, true, false, cond, eqb, ◌≢◌, List, [], ◌∷◌, ◌++◌, length, get_or, drop, Ok, refl, ap, ◌∙◌, arith, lit<}
 use Rattle.std.proofs.lemmas.Bool.{lt-leb, le-leb, le-ltb, ne_eqb, eq-eqb}
-use Rattle.message.specs.declared.fault.Refusal.TheVariants.{NoMessage, WayFull}
-use Rattle.route.specs.Ways.{Ways, Sound, Messages, ways_of, toward, with_toward, message_sized, refused, fronted, oldest, without, most}
-use Rattle.route.specs.Ways.{put_answer, put_after, take_answer, take_buffer, take_after, count_answer, room_answer, lose_answer, lose_after}
+use Rattle.message.specs.declared.fault.Refusal.TheVariants.{NoMessage}
+use Rattle.route.specs.declared.end.End.{End}
+use Rattle.route.specs.declared.end.End.TheVariants.{Zero, One}
+use Rattle.route.specs.Ends.{end_number}
+use Rattle.route.specs.Queues.{queue, with_queue}
+use Rattle.route.specs.Ways.{Ways, Sound, Messages, ways_of, toward, with_toward, message_sized, refused, fronted, oldest, without}
+use Rattle.route.specs.Ways.{put_answer, put_after, take_answer, take_buffer, take_after, lose_answer, lose_after}
 
--- the list toward an end of a route given by its two lists
-pub toward_of : (e : ℕ) (f : ℕ → Messages) (n : ℕ) → e < 2 → toward e (ways_of f n) ≡ f e
-toward_of zero f n h = refl
-toward_of (suc zero) f n h = refl
-toward_of (suc (suc e)) f n h = absurd (omega arith)
+-- there are two ends
+pub two_ends : (end : End) → end_number end < 2
+two_ends Zero = lit< tt
+two_ends One = lit< tt
 
--- two routes whose lists toward all ends but e are the same
-changed_toward : (e : ℕ) (f g : ℕ → Messages) (n : ℕ) → e < 2 → ((d : ℕ) → d < 2 → d ≢ e → g d ≡ f d) → ways_of g n ≡ with_toward e (g e) (ways_of f n)
-changed_toward zero f g n h k = ap (λ (l : Messages). record { zero = g 0; one = l; capacity = n }) (k 1 (omega arith) (λ z. omega arith))
-changed_toward (suc zero) f g n h k = ap (λ (l : Messages). record { zero = l; one = g 1; capacity = n }) (k 0 (omega arith) (λ z. omega arith))
-changed_toward (suc (suc e)) f g n h k = absurd (omega arith)
+-- the messages toward an end of a route given by its two lists
+pub queue_of : (end : End) (f : ℕ → Messages) (n : ℕ) → queue end (ways_of f n) ≡ f (end_number end)
+queue_of Zero f n = refl
+queue_of One f n = refl
 
--- a route of which the list toward the end e is changed, and the other is not
-pub changed_by : (e : ℕ) (F : Messages → Messages) (f g : ℕ → Messages) (n : ℕ) → e < 2 → g e ≡ F (f e) → ((d : ℕ) → d < 2 → d ≢ e → g d ≡ f d) →
-    ways_of g n ≡ with_toward e (F (toward e (ways_of f n))) (ways_of f n)
-changed_by e F f g n h same others = changed_toward e f g n h others ∙ ap (λ l. with_toward e l (ways_of f n)) (same ∙ ap F (sym (toward_of e f n h)))
+-- a route of which the messages toward an end are changed, and the others are not
+pub changed_by : (end : End) (F : Messages → Messages) (f g : ℕ → Messages) (n : ℕ) → g (end_number end) ≡ F (f (end_number end)) →
+    ((d : ℕ) → d < 2 → d ≢ end_number end → g d ≡ f d) → ways_of g n ≡ with_queue end F (ways_of f n)
+changed_by Zero F f g n same others =
+    ap (λ (l : Messages). record { zero = l; one = g 1; capacity = n }) same
+    ∙ ap (λ (l : Messages). record { zero = F (f 0); one = l; capacity = n }) (others 1 (lit< tt) (λ z. omega arith))
+changed_by One F f g n same others =
+    ap (λ (l : Messages). record { zero = g 0; one = l; capacity = n }) same
+    ∙ ap (λ (l : Messages). record { zero = l; one = F (f 1); capacity = n }) (others 0 (lit< tt) (λ z. omega arith))
 
 -- the list toward an end after another one was put there, or toward the other end
 pub toward_same : (e : ℕ) (l : Messages) (w : Ways) → toward e (with_toward e l w) ≡ l
@@ -46,10 +53,6 @@ pub put_fits : (e : ℕ) (m : List ℕ) (w : Ways) → e < 2 → message_sized m
     (Ok tt ≡ put_answer e m w) × (with_toward e (toward e w ++ (m ∷ [])) w ≡ put_after e m w)
 put_fits e m w h i k = let p = lt-leb 2 e h in let s = lt-leb w.capacity (length (toward e w)) k in simp (p, i, s) (refl, refl)
 
-pub put_full : (e : ℕ) (m : List ℕ) (w : Ways) → e < 2 → message_sized m ≡ true → w.capacity ≤ length (toward e w) →
-    (refused WayFull ≡ put_answer e m w) × (w ≡ put_after e m w)
-put_full e m w h i k = let p = lt-leb 2 e h in let s = le-leb w.capacity (length (toward e w)) k in simp (p, i, s) (refl, refl)
-
 pub take_fits : (e : ℕ) (b : List ℕ) (w : Ways) → e < 2 → 268 ≤ length b → 0 < length (toward e w) →
     (Ok (length (oldest (toward e w))) ≡ take_answer e b w) × (fronted (oldest (toward e w)) b ≡ take_buffer e b w) × (with_toward e (drop 1 (toward e w)) w ≡ take_after e b w)
 take_fits e b w h i k =
@@ -62,12 +65,6 @@ pub take_none : (e : ℕ) (b : List ℕ) (w : Ways) → e < 2 → 268 ≤ length
 take_none e b w h i k =
     let p = lt-leb 2 e h in let q = le-ltb (length b) 268 i in let s = eq-eqb (length (toward e w)) 0 k in
     simp (p, q, s) (refl, refl, refl)
-
-pub count_fits : (e : ℕ) (w : Ways) → e < 2 → Ok (min (length (toward e w)) most) ≡ count_answer e w
-count_fits e w h = let p = lt-leb 2 e h in simp p refl
-
-pub room_fits : (e : ℕ) (w : Ways) → e < 2 → Ok (min (w.capacity - length (toward e w)) most) ≡ room_answer e w
-room_fits e w h = let p = lt-leb 2 e h in simp p refl
 
 pub lose_fits : (e i : ℕ) (w : Ways) → e < 2 → i < length (toward e w) →
     (Ok tt ≡ lose_answer e i w) × (with_toward e (without i (toward e w)) w ≡ lose_after e i w)

@@ -1,5 +1,6 @@
 -- A message that is put, and the oldest one that is then taken.
-use Rattle.std.proofs.Common.{◌≡◌, ℕ, ◌<◌, ◌≤◌, cond, List, [], ◌∷◌, ◌++◌, length, take, drop, is_ok, Ok, Err, sym, ap, ◌∙◌, ⊎_elim, arith, length-append}
+use Rattle.std.proofs.Common.{◌≡◌, ℕ, ◌-◌, ◌<◌, ◌≤◌, cond, List, [], ◌∷◌, ◌++◌, length, take, drop, is_ok, Ok, Err, sym, ap, ◌∙◌, ⊎_elim, arith, length-append}
+use Rattle.std.proofs.Math.Nat.{sub-zero}
 use Rattle.std.proofs.lemmas.Bool.{true≢false}
 use Rattle.message.specs.declared.fault.Fault.{Fault}
 use Rattle.route.specs.Ways.{Ways, Messages, toward, with_toward, oldest, put_answer, put_after, take_answer, take_buffer, take_after}
@@ -31,6 +32,13 @@ put_then_taken e m b w h k =
     })
     (λ z. absurd (true≢false (sym (ap is_ok h) ∙ z.0)))
     (put_does e m w)
+
+-- what is then at the front of the buffer
+pub taken_front : (e n : ℕ) (m b b' : List ℕ) (w v : Ways) → put_answer e m w ≡ Ok tt → 268 ≤ length b → v ≡ put_after e m w →
+    Ok n ≡ take_answer e b v → b' ≡ take_buffer e b v → take (n - 0) b' ≡ oldest (toward e w ++ (m ∷ []))
+taken_front e n m b b' w v put size after told filled =
+    ap (λ k. take k b') (sub-zero n) ∙ ap (take n) (filled ∙ ap (take_buffer e b) after)
+    ∙ (put_then_taken e m b w put size).front n (told ∙ ap (take_answer e b) after)
 
 -- after PUT was refused, nothing has changed
 pub put_then_refused : (e : ℕ) (m : List ℕ) (w : Ways) (f : Fault) → Err f ≡ put_answer e m w → put_after e m w ≡ pass_after e m w

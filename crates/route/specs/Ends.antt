@@ -1,5 +1,7 @@
 -- The two ends of a route.
-use Rattle.std.specs.Prelude.{ℕ, cond, ◌==◌}
+use Rattle.std.specs.Prelude.{◌≡◌, ℕ, ◌<◌, ◌≤◌, Result, MatchResult}
+use Rattle.message.specs.declared.fault.Fault.{Fault}
+use Rattle.message.specs.declared.fault.Refusal.TheVariants.{NoSuchEnd}
 use Rattle.route.specs.declared.end.End.{End}
 use Rattle.route.specs.declared.end.End.TheVariants.{Zero, One}
 
@@ -8,6 +10,6 @@ abbrev pub end_number : End → ℕ
 end_number Zero = 0
 end_number One = 1
 
--- the end of a number below 2
-abbrev pub end_of : ℕ → End
-end_of e = cond (e == 0) Zero One
+-- a number below 2 names its end, and any other is refused
+abbrev pub NamesEnd : ℕ → Result End Fault → Type 0
+NamesEnd n r = MatchResult r (λ end. (n < 2) × (end_number end ≡ n)) (λ f. (2 ≤ n) × (f ≡ record { refusal = NoSuchEnd; place = 0 }))

@@ -1,12 +1,13 @@
 -- What passing a message through a route answers and leaves.
-use Rattle.std.specs.Prelude.{◌≡◌, ℕ, Bool, cond, List, [], ◌∷◌, ◌++◌, drop, is_ok, Ok, Err, Decides, Result}
+use Rattle.std.specs.Prelude.{◌≡◌, ℕ, Bool, cond, List, [], ◌∷◌, ◌++◌, drop, is_ok, Ok, Err, Result, MatchResult, IsTrue, ◌↔◌}
 use Rattle.message.specs.declared.fault.Fault.{Fault}
 use Rattle.route.specs.Ways.{Ways, toward, with_toward, oldest, put_answer}
 
 -- the refusal of PUT, or whether the oldest message is then the one that was put
 abbrev pub PassAnswer : ℕ → List ℕ → Ways → Result Bool Fault → Type 0
-PassAnswer e m w (Ok same) = (put_answer e m w ≡ Ok tt) × Decides same (oldest (toward e w ++ (m ∷ [])) ≡ m)
-PassAnswer e m w (Err f) = put_answer e m w ≡ Err f
+PassAnswer e m w r = MatchResult r
+    (λ same. (put_answer e m w ≡ Ok tt) × (IsTrue same ↔ (oldest (toward e w ++ (m ∷ [])) ≡ m)))
+    (λ f. put_answer e m w ≡ Err f)
 
 -- the message is put behind the list, and the oldest one is gone
 abbrev pub pass_after : ℕ → List ℕ → Ways → Ways

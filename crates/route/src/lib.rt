@@ -12,12 +12,15 @@ use message::fault::Fault;
 
 pub mod checks;
 mod end;
+mod over_queues;
 mod passing;
+mod queues;
 mod slot;
 mod storing;
 
 pub use end::End;
 pub use passing::pass;
+pub use queues::Queues;
 pub use slot::Slot;
 
 // Messages of 1 to 268 octets on their way toward end 0 and toward end 1, in the order in which they were put.

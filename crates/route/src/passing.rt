@@ -1,5 +1,5 @@
 // What can be said over any route: by its lists alone.
-ghost use Rattle.std.specs.Prelude.{◌≡◌, true, [], IfOk};
+ghost use Rattle.std.specs.Prelude.{◌≡◌, [], IfOk, IsTrue};
 ghost use Rattle.route.specs.Ways.{toward};
 ghost use Rattle.route.specs.Passing.{PassAnswer, pass_after};
 ghost use Rattle.route.specs.Laws.{Laws};
@@ -9,9 +9,10 @@ use message::fault::Fault;
 use message::kind;
 
 // Puts a message toward an end, takes the oldest one there, and says whether the two are the same: on an empty way they are.
+#[tactic(auto, using(crate::proofs::Through::put_then_taken, crate::proofs::Through::put_then_refused))]
 pub fn pass<R: BenchRoute>(route: &mut R, end: u32, message: &[u8]) -> Result<bool, Fault>
     ensures answer { PassAnswer end message.now (R.Route.ways route.old) result }
-    ensures through { toward end (R.Route.ways route.old) ≡ [] → IfOk result (λ same. same ≡ true) }
+    ensures through { toward end (R.Route.ways route.old) ≡ [] → IfOk result (λ same. IsTrue same) }
     ensures after { R.Route.ways route.new ≡ pass_after end message.now (R.Route.ways route.old) }
     ensures laws { Laws }
 {

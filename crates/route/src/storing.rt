@@ -1,8 +1,7 @@
 // Messages in slots.
-ghost use Rattle.std.specs.Prelude.{◌≡◌, ◌<◌, ◌≤◌, true, false, [], ◌∷◌, length, replicate, Ok, Err};
-ghost use Rattle.message.specs.declared.fault.Refusal.TheVariants.{MessageLength};
-ghost use Rattle.route.specs.Ways.{fronted, message_sized};
-ghost use Rattle.route.specs.Stored.{message_of};
+ghost use Rattle.std.specs.Prelude.{◌≡◌, ◌≤◌, [], ◌∷◌, length, replicate};
+ghost use Rattle.route.specs.Ways.{fronted};
+ghost use Rattle.route.specs.Stored.{message_of, Holds};
 
 use crate::checks::check_length;
 use crate::slot::Slot;
@@ -19,22 +18,26 @@ impl Slot {
         }
     }
 
-    // A slot that holds a message of 1 to 268 octets.
-    pub fn holding(message: &[u8]) -> Result<Slot, Fault>
-        ensures { elim result [ Ok s ↦ (message_sized message.now ≡ true) × (message_of s ≡ message.now) | Err f ↦ (message_sized message.now ≡ false) × (f ≡ record { refusal = MessageLength; place = 0 }) ] }
-    {
-        check_length(message)?;
-        Ok(Slot {
-            size: message.len() as u16,
-            octets: padded(message),
-        })
-    }
-
     // The message in the slot.
     pub fn message(&self) -> &[u8]
         ensures { result.now ≡ message_of self.now }
     {
         &self.octets[0..self.size as usize]
+    }
+}
+
+// A slot that holds a message of 1 to 268 octets.
+impl TryFrom<&[u8]> for Slot {
+    type Error = Fault;
+
+    ghost try_from_gives = { λ message r. Holds message.now r };
+
+    fn try_from(message: &[u8]) -> Result<Slot, Fault> {
+        check_length(message)?;
+        Ok(Slot {
+            size: message.len() as u16,
+            octets: padded(message),
+        })
     }
 }
 

@@ -4,7 +4,7 @@
 ghost use Rattle.std.specs.Prelude.{◌≡◌};
 ghost use Rattle.route.specs.Ways.{joined};
 ghost use Rattle.tandem.specs.Rooms.{RoomMade};
-ghost use Rattle.tandem.specs.Rows.{sound_joined};
+ghost use Rattle.tandem.specs.Sound.{sound_joined};
 
 use message::fault::{Fault, Refusal};
 use message::kind;
@@ -29,8 +29,11 @@ impl<A, B> Tandem<A, B> {
 
 impl<A: Route, B: Route> Tandem<A, B> {
     // Sees that the first has room: where it is full and the second is not, its oldest message moves on.
+    #[tactic(auto, using(crate::proofs::Rows::room_first, crate::proofs::Rows::room_none))]
     fn make_room(&mut self, end: u32) -> Result<(), Fault>
-        ensures { RoomMade end result (A.Route.ways self.old.first) (B.Route.ways self.old.second) (A.Route.ways self.new.first) (B.Route.ways self.new.second) }
+        ensures { RoomMade end result
+            (A.Route.ways self.old.first) (B.Route.ways self.old.second)
+            (A.Route.ways self.new.first) (B.Route.ways self.new.second) }
     {
         if self.first.room(end)? > 0 {
             return Ok(());
@@ -49,13 +52,15 @@ impl<A: Route, B: Route> Route for Tandem<A, B> {
 
     ghost sound = { λ s. sound_joined (A.Route.ways s.first) (B.Route.ways s.second) (A.Route.sound s.first) (B.Route.sound s.second) };
 
+    #[tactic(auto, using(crate::proofs::Rows::put_first))]
     fn put(&mut self, end: u32, message: &[u8]) -> Result<(), Fault> {
-        End::numbered(end)?;
+        End::try_from(end)?;
         check_length(message)?;
         self.make_room(end)?;
         self.first.put(end, message)
     }
 
+    #[tactic(auto, using(crate::proofs::Rows::take_first, crate::proofs::Rows::take_second))]
     fn take(&mut self, end: u32, buffer: &mut [u8]) -> Result<usize, Fault> {
         if buffer.len() < kind::LARGEST_MESSAGE {
             return Err(Refusal::MemorySize.at(0));
@@ -67,12 +72,14 @@ impl<A: Route, B: Route> Route for Tandem<A, B> {
         }
     }
 
+    #[tactic(auto, using(crate::proofs::Rows::count_joined))]
     fn count(&self, end: u32) -> Result<u32, Fault> {
         let newer = self.first.count(end)?;
         let older = self.second.count(end)?;
         Ok(newer.saturating_add(older))
     }
 
+    #[tactic(auto, using(crate::proofs::Rows::room_joined))]
     fn room(&self, end: u32) -> Result<u32, Fault> {
         let first = self.first.room(end)?;
         let second = self.second.room(end)?;
@@ -81,6 +88,7 @@ impl<A: Route, B: Route> Route for Tandem<A, B> {
 }
 
 impl<A: BenchRoute, B: BenchRoute> BenchRoute for Tandem<A, B> {
+    #[tactic(auto, using(crate::proofs::Rows::lose_first, crate::proofs::Rows::lose_second))]
     fn lose(&mut self, end: u32, position: u32) -> Result<(), Fault> {
         let older = self.second.count(end)?;
         if self.second.lose(end, position).is_ok() {

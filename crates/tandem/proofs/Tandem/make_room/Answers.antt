@@ -1,16 +1,6 @@
 use Rattle.std.proofs.Common.{replicate, lit≤}
-use Rattle.tandem.specs.Rows.{room_first, room_none, room_moved}
+use Rattle.tandem.proofs.Rows.{room_moved}
 use Rattle.tandem.proofs.Tandem.make_room.Goals as goal
-
-pub returns-then-branch-gt0 : goal.returns-then-branch-gt0
-returns-then-branch-gt0 g c =
-    room_first c.args.end c.in_ok-room.field-0 (g.A.Route.ways c.args.self.now.first) (g.B.Route.ways c.args.self.now.second)
-    (g.met.B.Route.sound c.args.self.now.second) c.in_ok-room.ensures c.if-branch-gt0.true
-
-pub returns-then-branch-eq0 : goal.returns-then-branch-eq0
-returns-then-branch-eq0 g c =
-    room_none c.args.end c.in_ok-room.field-0 c.in_ok-room-2.field-0 c.at.result (g.A.Route.ways c.args.self.now.first) (g.B.Route.ways c.args.self.now.second)
-    c.in_ok-room.ensures c.if-branch-gt0.false c.in_ok-room-2.ensures c.if-branch-eq0.true c.at.ensures
 
 pub returns : goal.returns
 returns g c =

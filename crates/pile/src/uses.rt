@@ -1,0 +1,58 @@
+// What one record is used for.
+ghost use Rattle.std.specs.Prelude.{◌≡◌};
+ghost use Rattle.route.specs.Ends.{end_number};
+ghost use Rattle.pile.specs.Numbers.{is_free, toward_end, waits, with_moved_up};
+
+use crate::records::{Record, Waiting};
+use route::{End, Slot};
+
+impl Record {
+    // A record that is not in use yet.
+    pub fn unused() -> Record
+        ensures { result.tag ≡ None }
+    {
+        Record {
+            tag: None,
+            slot: Slot::unused(),
+        }
+    }
+
+    pub(crate) fn is_free(&self) -> bool
+        ensures { result ≡ is_free self.now.tag }
+    {
+        self.tag.is_none()
+    }
+
+    // It holds a message toward an end.
+    pub(crate) fn is_toward(&self, end: End) -> bool
+        ensures { result ≡ toward_end (end_number end) self.now.tag }
+    {
+        self.tag.is_some_and(|waiting| waiting.end == end)
+    }
+
+    // It holds the oldest message toward an end.
+    pub(crate) fn is_oldest(&self, end: End) -> bool
+        ensures { result ≡ waits (end_number end) 0 self.now.tag }
+    {
+        self.tag == Some(Waiting { end, number: 0 })
+    }
+
+    // The message with a queue number toward an end goes: its own record is free, and those behind it move up.
+    pub(crate) fn move_up(&mut self, end: End, gone: usize)
+        ensures { self.new ≡ with_moved_up (end_number end) gone self.old }
+    {
+        if let Some(waiting) = self.tag
+            && waiting.end == end
+            && waiting.number >= gone
+        {
+            self.tag = if waiting.number == gone {
+                None
+            } else {
+                Some(Waiting {
+                    end,
+                    number: waiting.number - 1,
+                })
+            };
+        }
+    }
+}
