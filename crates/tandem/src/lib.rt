@@ -79,6 +79,7 @@ impl<A: Route, B: Route> Route for Tandem<A, B> {
         Ok(newer.saturating_add(older))
     }
 
+    // Like `count` but for the numbers: all that one function for both could share is `saturating_add`.
     #[tactic(auto, using(crate::proofs::Rows::room_joined))]
     fn room(&self, end: u32) -> Result<u32, Fault> {
         let first = self.first.room(end)?;
