@@ -37,14 +37,13 @@ impl<Q: Queues> Route for Q {
         Ok(message.len())
     }
 
+    // COUNT and ROOM tell two numbers: all that one function for both could share is `capped`.
     fn count(&self, end: u32) -> Result<u32, Fault> {
-        let end = End::try_from(end)?;
-        Ok(capped(self.waiting(end)))
+        Ok(capped(self.waiting(End::try_from(end)?)))
     }
 
     fn room(&self, end: u32) -> Result<u32, Fault> {
-        let end = End::try_from(end)?;
-        Ok(capped(self.spare(end)))
+        Ok(capped(self.spare(End::try_from(end)?)))
     }
 }
 
