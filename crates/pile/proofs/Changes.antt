@@ -19,6 +19,7 @@ use Rattle.pile.specs.declared.records.Waiting.{Waiting}
 use Rattle.pile.specs.declared.records.Record.{Record}
 use Rattle.pile.specs.Numbers.{is_free, toward_end, waits, FreeAt, unoccupied, waiting, holders, Numbered, message_numbered, in_order, moved_up, with_moved_up}
 use Rattle.pile.specs.Sound.{length-order, at_order}
+use Rattle.pile.proofs.Sums.{sum_over, sum_parts, sum_ones}
 
 -- one record counted anew
 count_set : (p : Record → Bool) (l : List Record) (i : ℕ) (r : Record) → i < length l → p (slice_index_or l i r) ≡ false → count_by p (slice_set l i r) ≡ count_by p l + cond (p r) 1 0
@@ -36,12 +37,11 @@ parts (Some w) = of w.end
     of One = refl
 
 all_records : (l : List Record) → waiting 0 l + waiting 1 l + unoccupied l ≡ length l
-all_records [] = refl
-all_records (r ∷ l) =
-    let rest = all_records l in
-    let here = parts r.tag in
-    let more = λ (p : Record → Bool). sum_by-cons (λ x. cond (p x) 1 0) r l in
-    omega (arith, more (λ x. toward_end 0 x.tag), more (λ x. toward_end 1 x.tag), more (λ x. is_free x.tag))
+all_records l =
+    let f : ℕ → Record → ℕ = λ e r. cond (toward_end e r.tag) 1 0 in
+    let free : Record → ℕ = λ r. cond (is_free r.tag) 1 0 in
+    ap (λ n. n + unoccupied l) (sum_parts (f 0) (f 1) (λ r. f 0 r + f 1 r) (λ r. refl) l)
+    ∙ sum_parts (λ r. f 0 r + f 1 r) free (λ _. 1) (λ r. parts r.tag) l ∙ sum_ones l
 
 -- the queue number that j was before the number k went, and how a record's use shows it
 abbrev before : ℕ → ℕ → ℕ
@@ -91,29 +91,20 @@ numbered_over d j i e k (r ∷ l) w =
     go true o p same = refl
     go false o p same = same
 
-count_over : (p q : Record → Bool) (f : Record → Record) → ((r : Record) → p (f r) ≡ q r) → (l : List Record) → count_by p (map f l) ≡ count_by q l
-count_over p q f h [] = refl
-count_over p q f h (r ∷ l) =
-    let rest = count_over p q f h l in
-    let here : ◌≡◌ {A = ℕ} (cond (p (f r)) 1 0) (cond (q r) 1 0) = ap (λ b. cond b 1 0) (h r) in
-    omega (arith, sum_by-cons (λ x. cond (p x) 1 0) (f r) (map f l), sum_by-cons (λ x. cond (q x) 1 0) r l)
-
 holders_over : (d j i e k : ℕ) (l : List Record) → ((t : Option Waiting) → waits d j (moved_up e k t) ≡ waits d i t) → holders d j (map (with_moved_up e k) l) ≡ holders d i l
-holders_over d j i e k l w = count_over (λ r. waits d j r.tag) (λ r. waits d i r.tag) (with_moved_up e k) (λ r. w r.tag) l
+holders_over d j i e k l w =
+    sum_over (with_moved_up e k) (λ r. cond (waits d j r.tag) 1 0) (λ r. cond (waits d i r.tag) 1 0) (λ r. ap (λ b. cond b 1 0) (w r.tag)) l
 
 as_many : (d e k : ℕ) (l : List Record) → d ≢ e → waiting d (map (with_moved_up e k) l) ≡ waiting d l
-as_many d e k l h = count_over (λ r. toward_end d r.tag) (λ r. toward_end d r.tag) (with_moved_up e k) (λ r. toward_other d e k r.tag h) l
-
-all_but_gone : (e k : ℕ) (l : List Record) → waiting e (map (with_moved_up e k) l) + holders e k l ≡ waiting e l
-all_but_gone e k [] = refl
-all_but_gone e k (r ∷ l) =
-    let rest = all_but_gone e k l in
-    let here = toward_same e k r.tag in
-    let toward : Record → ℕ = λ x. cond (toward_end e x.tag) 1 0 in
-    omega (arith, sum_by-cons toward (with_moved_up e k r) (map (with_moved_up e k) l), sum_by-cons (λ (x : Record). cond (waits e k x.tag) 1 0) r l, sum_by-cons toward r l)
+as_many d e k l h =
+    sum_over (with_moved_up e k) (λ r. cond (toward_end d r.tag) 1 0) (λ r. cond (toward_end d r.tag) 1 0) (λ r. ap (λ b. cond b 1 0) (toward_other d e k r.tag h)) l
 
 fewer : (e k : ℕ) (l : List Record) → Numbered l → k < waiting e l → waiting e (map (with_moved_up e k) l) + 1 ≡ waiting e l
-fewer e k l u h = let one : holders e k l ≡ 1 = let n = u e k in grind (arith, nat_tests) in omega (arith, all_but_gone e k l)
+fewer e k l u h =
+    let one : holders e k l ≡ 1 = let n = u e k in grind (arith, nat_tests) in
+    let moved = sum_over (with_moved_up e k) (λ r. cond (toward_end e r.tag) 1 0) (λ r. cond (toward_end e (moved_up e k r.tag)) 1 0) (λ r. refl) l in
+    let both = sum_parts (λ (r : Record). cond (toward_end e (moved_up e k r.tag)) 1 0) (λ r. cond (waits e k r.tag) 1 0) (λ r. cond (toward_end e r.tag) 1 0) (λ r. toward_same e k r.tag) l in
+    omega arith
 
 before_within : (j k n m : ℕ) → k < n → m + 1 ≡ n → ◌≡◌ {A = ℕ} (cond (nat_lt (before k j) n) 1 0) (cond (nat_lt j m) 1 0)
 before_within j k n m h e = grind (arith, nat_tests)

@@ -1,3 +1,4 @@
+pub mod Sums
 pub mod Loops
 pub mod Changes
 pub mod Means
