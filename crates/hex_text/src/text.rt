@@ -24,6 +24,7 @@ pub enum HexFault {
     Memory,
 }
 
+// By hand, like the conversions below: contracts name what they give, and derived ones have no contract.
 impl fmt::Display for HexFault {
     ghost output = { λ fault. Some (fault_text fault) };
 

@@ -9,7 +9,7 @@ use message::fault::Fault;
 use std::fmt;
 use std::fmt::Display;
 
-// The line of a message: its name, then each field as name=value.
+// The line of a message: its name, then each field as name=value. An arm for each message, for a match has to be whole.
 #[derive(Clone, Copy, PartialEq, Eq, Debug)]
 pub struct Line<'a>(pub Message<'a>);
 

@@ -24,6 +24,8 @@ pub use queues::Queues;
 pub use slot::Slot;
 
 // Messages of 1 to 268 octets on their way toward end 0 and toward end 1, in the order in which they were put.
+// An end and a position are numbers and not types of less, for a call answers on any number. What is taken goes into the
+// caller's buffer, for a route has no memory of its own.
 pub trait Route {
     ghost ways: { Self → Ways };
 
