@@ -70,12 +70,12 @@ is_order e l q n f = fill_by_all (λ k. message_numbered e k l) q (waiting e l) 
 same_order : (e : ℕ) (l m : List Record) → waiting e m ≡ waiting e l → ((k : ℕ) → k < waiting e l → message_numbered e k m ≡ message_numbered e k l) → in_order e m ≡ in_order e l
 same_order e l m n f = is_order e l (in_order e m) (length-order e m ∙ n) (λ k h. at_order e k m (omega arith) ∙ f k h)
 
--- the oldest message, if there is one
-pub some_oldest : (e : ℕ) (l : List Record) → Numbered l → 0 < holders e 0 l → 0 < waiting e l
-some_oldest e l u h = let n = u e 0 in grind (arith, nat_tests)
+-- the message with a number, if there is one
+pub some_numbered : (e k : ℕ) (l : List Record) → Numbered l → 0 < holders e k l → k < waiting e l
+some_numbered e k l u h = let n = u e k in grind (arith, nat_tests)
 
-pub no_oldest : (e : ℕ) (l : List Record) → Numbered l → holders e 0 l ≡ 0 → waiting e l ≡ 0
-no_oldest e l u h = let n = u e 0 in grind (arith, nat_tests)
+pub none_numbered : (e k : ℕ) (l : List Record) → Numbered l → holders e k l ≡ 0 → waiting e l ≤ k
+none_numbered e k l u h = let n = u e k in grind (arith, nat_tests)
 
 -- As a message goes, each number names the message that the number before named
 numbered_over : (d j i e k : ℕ) (l : List Record) → ((t : Option Waiting) → waits d j (moved_up e k t) ≡ waits d i t) → message_numbered d j (map (with_moved_up e k) l) ≡ message_numbered d i l

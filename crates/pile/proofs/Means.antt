@@ -1,9 +1,8 @@
 -- What a pile means as it is new, and as a message comes or goes.
-use Rattle.std.proofs.Common.{◌≡◌, ℕ, ◌/◌, ◌<◌, ◌≤◌, Option, None, Some, option_map, MatchOption, find, position, Bool, true, refl, inl, inr, List, [], ◌∷◌, ◌++◌, map, length, set, sym, ap, ◌∙◌, arith}
+use Rattle.std.proofs.Common.{◌≡◌, ℕ, ◌/◌, ◌<◌, ◌≤◌, Option, None, Some, option_map, MatchOption, find, position, Bool, true, refl, inl, inr, List, [], ◌∷◌, ◌++◌, map, length, get_or, set, sym, ap, ◌∙◌, arith}
 use Rattle.std.specs.List.{position_or_len}
 use Rattle.std.specs.Option.{option_map_or}
 use Rattle.std.proofs.lemmas.Bool.{cases_lt, lt-ltb, le-ltb, false≢true}
-use Rattle.std.proofs.lemmas.List.{nil_from_length}
 use Rattle.std.proofs.lemmas.List.Sums.{passes_at_first}
 use Rattle.std.proofs.lemmas.List.Folds.{find_at}
 use Rattle.std.proofs.lemmas.Option.{slice_get_past, MatchOption-at_none}
@@ -11,7 +10,7 @@ use Rattle.route.specs.declared.end.End.{End}
 use Rattle.route.specs.declared.slot.Slot.{Slot}
 use Rattle.route.specs.Ends.{end_number}
 use Rattle.route.specs.Stored.{message_of}
-use Rattle.route.specs.Ways.{Ways, Messages, ways_of, without, oldest}
+use Rattle.route.specs.Ways.{Ways, Messages, ways_of, without}
 use Rattle.route.specs.Queues.{queue, with_queue}
 use Rattle.pile.specs.declared.store.Pile.{Pile}
 use Rattle.pile.specs.Held.{pile_ways}
@@ -20,7 +19,7 @@ use Rattle.pile.specs.declared.records.Record.{Record}
 use Rattle.pile.specs.declared.records.Waiting.{Waiting}
 use Rattle.pile.specs.Numbers.{is_free, waits, unoccupied, FreeAt, waiting, holders, Numbered, in_order, with_moved_up}
 use Rattle.pile.specs.Sound.{length-order, at_order, found}
-use Rattle.pile.proofs.Changes.{record_of, some_oldest, no_oldest, removed_same, removed_other, added_same, added_other}
+use Rattle.pile.proofs.Changes.{record_of, some_numbered, none_numbered, removed_same, removed_other, added_same, added_other}
 
 -- what records mean at a capacity
 abbrev pub means : List Record → ℕ → Ways
@@ -46,10 +45,10 @@ added_means end k s l i n x u f =
     changed_by end (λ q. q ++ (message_of s ∷ [])) (λ d. in_order d l) (λ d. in_order d (set l i (record_of end k s))) n
     (added_same end k s l i x u f) (λ d _ z. added_other d end k s l i f z)
 
--- the oldest message, found by its queue number
-pub oldest_found : (p : Pile) (end : End) (l : List Record) (o : Option Slot) → l ≡ p.records.items → o ≡ option_map (λ (r : Record). r.slot) (find (λ (r : Record). waits (end_number end) 0 r.tag) l) →
-    MatchOption o (queue end (pile_ways p) ≡ []) (λ s. (0 < length (queue end (pile_ways p))) × (message_of s ≡ oldest (queue end (pile_ways p))))
-oldest_found p end s o same is = rw (is, same) (go (find test l) refl (found test l))
+-- the message at a position, found by its queue number
+pub slot_found : (p : Pile) (end : End) (k : ℕ) (l : List Record) (o : Option Slot) → l ≡ p.records.items → o ≡ option_map (λ (r : Record). r.slot) (find (λ (r : Record). waits (end_number end) k r.tag) l) →
+    MatchOption o (length (queue end (pile_ways p)) ≤ k) (λ s. (k < length (queue end (pile_ways p))) × (message_of s ≡ get_or (queue end (pile_ways p)) k []))
+slot_found p end k s o same is = rw (is, same) (go (find test l) refl (found test l))
   where
     e : ℕ
     e = end_number end
@@ -58,18 +57,18 @@ oldest_found p end s o same is = rw (is, same) (go (find test l) refl (found tes
     l = p.records.items
 
     test : Record → Bool
-    test r = waits e 0 r.tag
+    test r = waits e k r.tag
 
     q : Messages
     q = queue end (pile_ways p)
 
-    go : (f : Option Record) → find test l ≡ f → MatchOption f (holders e 0 l ≡ 0) (λ _. 0 < holders e 0 l) →
-        MatchOption (option_map (λ (r : Record). r.slot) f) (q ≡ []) (λ s. (0 < length q) × (message_of s ≡ oldest q))
-    go None h none = nil_from_length q (counted p end ∙ no_oldest e l p.numbered none)
+    go : (f : Option Record) → find test l ≡ f → MatchOption f (holders e k l ≡ 0) (λ _. 0 < holders e k l) →
+        MatchOption (option_map (λ (r : Record). r.slot) f) (length q ≤ k) (λ s. (k < length q) × (message_of s ≡ get_or q k []))
+    go None h none = omega (arith, counted p end, none_numbered e k l p.numbered none)
     go (Some r) h some =
-        let there = some_oldest e l p.numbered some in (
+        let there = some_numbered e k l p.numbered some in (
           omega (arith, counted p end),
-          ap (λ (f : Option Record). option_map_or (λ (x : Record). message_of x.slot) f []) (sym h) ∙ sym (at_order e 0 l there) ∙ ap oldest (sym (queue_of end (λ d. in_order d l) (p.records.len / 2))),
+          ap (λ (f : Option Record). option_map_or (λ (x : Record). message_of x.slot) f []) (sym h) ∙ sym (at_order e k l there) ∙ ap (λ v. get_or v k []) (sym (queue_of end (λ d. in_order d l) (p.records.len / 2))),
         )
 
 -- a free record, found by its place

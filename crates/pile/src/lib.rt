@@ -1,16 +1,18 @@
 // Queues in records that stand in no particular order, each with its end and its queue number.
 #![tactic(auto)]
 
-ghost use Rattle.std.specs.Prelude.{◌≡◌, ◌/◌, ◌<◌, ◌≤◌, ◌↔◌, IsOk, IfOk, IsErrOf, vec_len};
+ghost use Rattle.std.specs.Prelude.{◌≡◌, ◌/◌, ◌<◌, ◌≤◌, ◌↔◌, [], ◌∷◌, ◌++◌, length, IsOk, IfOk, IsErrOf, vec_len};
 ghost use Rattle.message.specs.declared.fault.Refusal.TheVariants.{MemorySize};
-ghost use Rattle.route.specs.Ways.{empty_ways};
+ghost use Rattle.route.specs.Queues.{queue, with_queue};
+ghost use Rattle.route.specs.Stored.{message_of};
+ghost use Rattle.route.specs.Ways.{empty_ways, without};
 ghost use Rattle.pile.specs.Held.{pile_ways};
 ghost use Rattle.pile.specs.Sound.{pile_sound};
 
 use message::fault::{Fault, Refusal};
 use records::Waiting;
 use route::{End, Queues, Slot};
-use upkeep::{count_toward, free_place, move_up, oldest_toward};
+use upkeep::{count_toward, free_place, move_up, slot_numbered};
 
 mod records;
 mod store;
@@ -36,6 +38,29 @@ impl Pile {
         records.fill(Record::unused());
         Ok(Pile { records })
     }
+
+    // Adds a message behind those toward an end.
+    fn add(&mut self, end: End, slot: Slot)
+        requires { length (queue end (pile_ways self.old)) < (pile_ways self.old).capacity }
+        ensures { pile_ways self.new ≡ with_queue end (λ q. q ++ message_of slot ∷ []) (pile_ways self.old) }
+    {
+        let number = self.waiting(end);
+        let Some(place) = free_place(&self.records) else {
+            unreachable!()
+        };
+        self.records[place] = Record {
+            tag: Some(Waiting { end, number }),
+            slot,
+        };
+    }
+
+    // The message at a position toward an end goes: those behind it move up.
+    fn close_gap(&mut self, end: End, position: usize)
+        requires { position < length (queue end (pile_ways self.old)) }
+        ensures { pile_ways self.new ≡ with_queue end (without position) (pile_ways self.old) }
+    {
+        move_up(&mut self.records, end, position);
+    }
 }
 
 impl Queues for Pile {
@@ -52,24 +77,17 @@ impl Queues for Pile {
         self.records.len() / 2 - self.waiting(end)
     }
 
-    fn push(&mut self, end: End, slot: Slot) {
-        let number = self.waiting(end);
-        let Some(place) = free_place(&self.records) else {
-            unreachable!()
-        };
-        self.records[place] = Record {
-            tag: Some(Waiting { end, number }),
-            slot,
-        };
+    fn push(&mut self, end: End, slot: Slot) -> Result<(), Slot> {
+        if self.spare(end) == 0 {
+            return Err(slot);
+        }
+        self.add(end, slot);
+        Ok(())
     }
 
-    fn pop(&mut self, end: End) -> Option<Slot> {
-        let slot = oldest_toward(&self.records, end)?;
-        self.remove(end, 0);
+    fn remove(&mut self, end: End, position: usize) -> Option<Slot> {
+        let slot = slot_numbered(&self.records, end, position)?;
+        self.close_gap(end, position);
         Some(slot)
-    }
-
-    fn remove(&mut self, end: End, position: usize) {
-        move_up(&mut self.records, end, position);
     }
 }

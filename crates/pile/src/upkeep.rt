@@ -16,14 +16,14 @@ pub(crate) fn count_toward(records: &[Record], end: End) -> usize
         .count()
 }
 
-// The slot of the oldest message toward an end, if one waits there.
-pub(crate) fn oldest_toward(records: &[Record], end: End) -> Option<Slot>
-    ensures { let oldest = find (λ r. waits (end_number end) 0 r.tag) records.now in
-        result ≡ option_map (λ r. r.slot) oldest }
+// The slot of the message with a queue number toward an end, if one has it.
+pub(crate) fn slot_numbered(records: &[Record], end: End, number: usize) -> Option<Slot>
+    ensures { let numbered = find (λ r. waits (end_number end) number r.tag) records.now in
+        result ≡ option_map (λ r. r.slot) numbered }
 {
     records
         .iter()
-        .find(|record| record.is_oldest(end))
+        .find(|record| record.is_numbered(end, number))
         .map(|record| record.slot)
 }
 

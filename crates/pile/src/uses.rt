@@ -30,11 +30,11 @@ impl Record {
         self.tag.is_some_and(|waiting| waiting.end == end)
     }
 
-    // It holds the oldest message toward an end.
-    pub(crate) fn is_oldest(&self, end: End) -> bool
-        ensures { result ≡ waits (end_number end) 0 self.now.tag }
+    // It holds the message with a queue number toward an end.
+    pub(crate) fn is_numbered(&self, end: End, number: usize) -> bool
+        ensures { result ≡ waits (end_number end) number self.now.tag }
     {
-        self.tag == Some(Waiting { end, number: 0 })
+        self.tag == Some(Waiting { end, number })
     }
 
     // The message with a queue number toward an end goes: its own record is free, and those behind it move up.

@@ -1,10 +1,12 @@
 // Queues in slots that are used in turn: what is put or taken touches one slot, however many there are.
 #![tactic(auto)]
 
-ghost use Rattle.std.specs.Prelude.{◌≡◌, ◌+◌, ◌/◌, ◌<◌, ◌≤◌, ◌↔◌, IsOk, IfOk, IsErrOf, vec_len};
+ghost use Rattle.std.specs.Prelude.{◌≡◌, ◌+◌, ◌/◌, ◌<◌, ◌≤◌, ◌↔◌, [], ◌∷◌, ◌++◌, length, IsOk, IfOk, IsErrOf, vec_len};
 ghost use Rattle.message.specs.declared.fault.Refusal.TheVariants.{MemorySize};
 ghost use Rattle.route.specs.Ends.{end_number};
-ghost use Rattle.route.specs.Ways.{empty_ways};
+ghost use Rattle.route.specs.Queues.{queue, with_queue};
+ghost use Rattle.route.specs.Stored.{message_of};
+ghost use Rattle.route.specs.Ways.{empty_ways, without};
 ghost use Rattle.ring.specs.Rounds.{wrap, place, turns_of};
 ghost use Rattle.ring.specs.Turns.{ring_ways};
 ghost use Rattle.ring.specs.Sound.{ring_sound};
@@ -65,6 +67,36 @@ impl Ring {
         let at = self.turns(end).oldest + turn;
         2 * self.wrapped(at) + end.index()
     }
+
+    // Adds a message behind those toward an end.
+    fn add(&mut self, end: End, slot: Slot)
+        requires { length (queue end (ring_ways self.old)) < self.old.capacity }
+        ensures { ring_ways self.new ≡ with_queue end (λ q. q ++ message_of slot ∷ []) (ring_ways self.old) }
+    {
+        let count = self.waiting(end);
+        let at = self.place(end, count);
+        self.slots[at] = slot;
+        self.ends[end.index()].count = count + 1;
+    }
+
+    // Moves the messages ahead of a position one turn behind, over the message that stands there. At the oldest nothing moves.
+    fn close_gap(&mut self, end: End, position: usize)
+        requires { position < length (queue end (ring_ways self.old)) }
+        ensures { ring_ways self.new ≡ with_queue end (without position) (ring_ways self.old) }
+    {
+        for turn in (0..position).rev() {
+            let from = self.place(end, turn);
+            let to = self.place(end, turn + 1);
+            let slot = self.slots[from];
+            self.slots[to] = slot;
+        }
+        let Turns { oldest, count } = self.turns(end);
+        let oldest = self.wrapped(oldest + 1);
+        self.ends[end.index()] = Turns {
+            oldest,
+            count: count - 1,
+        };
+    }
 }
 
 impl Queues for Ring {
@@ -82,36 +114,21 @@ impl Queues for Ring {
         self.capacity - self.waiting(end)
     }
 
-    fn push(&mut self, end: End, slot: Slot) {
-        let count = self.waiting(end);
-        let at = self.place(end, count);
-        self.slots[at] = slot;
-        self.ends[end.index()].count = count + 1;
+    fn push(&mut self, end: End, slot: Slot) -> Result<(), Slot> {
+        if self.spare(end) == 0 {
+            return Err(slot);
+        }
+        self.add(end, slot);
+        Ok(())
     }
 
-    fn pop(&mut self, end: End) -> Option<Slot> {
-        if self.waiting(end) == 0 {
+    fn remove(&mut self, end: End, position: usize) -> Option<Slot> {
+        if position >= self.waiting(end) {
             return None;
         }
-        let at = self.place(end, 0);
+        let at = self.place(end, position);
         let slot = self.slots[at];
-        self.remove(end, 0);
+        self.close_gap(end, position);
         Some(slot)
-    }
-
-    // The messages ahead of the gap move one turn behind, so at the oldest nothing moves.
-    fn remove(&mut self, end: End, position: usize) {
-        for turn in (0..position).rev() {
-            let from = self.place(end, turn);
-            let to = self.place(end, turn + 1);
-            let slot = self.slots[from];
-            self.slots[to] = slot;
-        }
-        let Turns { oldest, count } = self.turns(end);
-        let oldest = self.wrapped(oldest + 1);
-        self.ends[end.index()] = Turns {
-            oldest,
-            count: count - 1,
-        };
     }
 }

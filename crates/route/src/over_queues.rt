@@ -17,11 +17,7 @@ impl<Q: Queues> Route for Q {
     fn put(&mut self, end: u32, message: &[u8]) -> Result<(), Fault> {
         let end = End::try_from(end)?;
         let slot = Slot::try_from(message)?;
-        if self.spare(end) == 0 {
-            return Err(Refusal::WayFull.at(0));
-        }
-        self.push(end, slot);
-        Ok(())
+        self.push(end, slot).map_err(|_| Refusal::WayFull.at(0))
     }
 
     fn take(&mut self, end: u32, buffer: &mut [u8]) -> Result<usize, Fault> {
@@ -29,9 +25,7 @@ impl<Q: Queues> Route for Q {
             return Err(Refusal::MemorySize.at(0));
         }
         let end = End::try_from(end)?;
-        let Some(slot) = self.pop(end) else {
-            return Err(Refusal::NoMessage.at(0));
-        };
+        let slot = self.remove(end, 0).ok_or(Refusal::NoMessage.at(0))?;
         let message = slot.message();
         buffer[0..message.len()].copy_from_slice(message);
         Ok(message.len())
@@ -50,11 +44,8 @@ impl<Q: Queues> Route for Q {
 impl<Q: Queues> BenchRoute for Q {
     fn lose(&mut self, end: u32, position: u32) -> Result<(), Fault> {
         let end = End::try_from(end)?;
-        let position = position as usize;
-        if position >= self.waiting(end) {
-            return Err(Refusal::NoMessage.at(0));
-        }
-        self.remove(end, position);
+        self.remove(end, position as usize)
+            .ok_or(Refusal::NoMessage.at(0))?;
         Ok(())
     }
 }

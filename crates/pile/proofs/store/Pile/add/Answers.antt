@@ -2,7 +2,7 @@ use Rattle.std.proofs.Common.{◌≡◌, ◌/◌, None, Some, ap, ◌∙◌, ari
 use Rattle.pile.specs.Numbers.{unoccupied}
 use Rattle.pile.proofs.Changes.{some_free, added_within, added_numbered}
 use Rattle.pile.proofs.Means.{counted, added_means, free_found}
-use Rattle.pile.proofs.PileQueues.push.Goals as goal
+use Rattle.pile.proofs.store.Pile.add.Goals as goal
 
 pub unreachable-requires : goal.unreachable-requires
 unreachable-requires c =
