@@ -45,7 +45,7 @@ fn decode(rt: &HostRuntime) -> Result<(), Failure> {
             Ok(Some(answer)) => println!(rt; "{answer}")?,
             Err(fault) => {
                 println!(rt; "error line {}: {fault}", index + 1)?;
-                // Counted in the loop that prints them. Nothing here bounds how many lines there are.
+                // Counted in the loop that prints them; a bound on how many there are would need an invariant.
                 faults = faults.saturating_add(1);
             }
         }

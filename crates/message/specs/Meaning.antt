@@ -20,9 +20,9 @@ class_number Class2 = 2
 class_number (Class3 credit) = 3
 
 -- the number of a class by itself
-abbrev pub number_of_class : ClassNumber → ℕ
-number_of_class Two = 2
-number_of_class Three = 3
+abbrev pub class_octet : ClassNumber → ℕ
+class_octet Two = 2
+class_octet Three = 3
 
 -- the credit that a class has
 abbrev pub credit_of : ProtocolClass → Option Credit
@@ -35,11 +35,11 @@ credit_number Class2 = 0
 credit_number (Class3 credit) = credit.0
 
 -- a cause and a credit as they stand in a message
-abbrev pub cause_number : Cause → ℕ
-cause_number cause = cause.0
+abbrev pub cause_octet : Cause → ℕ
+cause_octet cause = cause.0
 
-abbrev pub window_size : Credit → ℕ
-window_size credit = credit.0
+abbrev pub credit_octet : Credit → ℕ
+credit_octet credit = credit.0
 
 -- the cause as it stands in ERR
 abbrev pub error_number : ErrorCause → ℕ

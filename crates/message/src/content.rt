@@ -3,7 +3,7 @@ ghost use Rattle.std.specs.Prelude.{◌≡◌, nat_le};
 ghost use Rattle.message.specs.Content.{within, between, reference_fits, class_fits};
 ghost use Rattle.message.specs.Layout.{reference_octets};
 ghost use Rattle.message.specs.Fields.{ReadsReference, ReadsField};
-ghost use Rattle.message.specs.Meaning.{meaning, class_number, credit_number, credit_of, cause_number, window_size, error_number, number_of_class};
+ghost use Rattle.message.specs.Meaning.{meaning, class_number, credit_number, credit_of, cause_octet, credit_octet, error_number, class_octet};
 
 use crate::fault::Refusal;
 
@@ -227,7 +227,7 @@ impl TryFrom<u8> for ErrorCause {
 impl TryFrom<u8> for ClassNumber {
     type Error = Refusal;
 
-    ghost try_from_gives = { ReadsField number_of_class 2 3 };
+    ghost try_from_gives = { ReadsField class_octet 2 3 };
 
     fn try_from(octet: u8) -> Result<ClassNumber, Refusal> {
         match octet {
@@ -238,12 +238,12 @@ impl TryFrom<u8> for ClassNumber {
     }
 }
 
-// Fields of one octet are types of their own, each with its limits. As one type with the limits for const parameters,
-// fields of the same limits would be one type, and Credit or Cause could not be written to make a value.
+// Fields of one octet are types of their own, each with its limits. As one type with the limits for const parameters their
+// names would be aliases, by which no value can be made, and one body for both conversions takes a trait longer than the two.
 impl TryFrom<u8> for Cause {
     type Error = Refusal;
 
-    ghost try_from_gives = { ReadsField cause_number 0 15 };
+    ghost try_from_gives = { ReadsField cause_octet 0 15 };
 
     fn try_from(octet: u8) -> Result<Cause, Refusal> {
         let cause = Cause(octet);
@@ -254,7 +254,7 @@ impl TryFrom<u8> for Cause {
 impl TryFrom<u8> for Credit {
     type Error = Refusal;
 
-    ghost try_from_gives = { ReadsField window_size 1 127 };
+    ghost try_from_gives = { ReadsField credit_octet 1 127 };
 
     fn try_from(octet: u8) -> Result<Credit, Refusal> {
         let credit = Credit(octet);
@@ -296,7 +296,7 @@ impl Cause {
 
 impl ProtocolClass {
     pub fn number(self) -> ClassNumber
-        ensures { number_of_class result ≡ class_number self }
+        ensures { class_octet result ≡ class_number self }
     {
         match self {
             ProtocolClass::Class2 => ClassNumber::Two,

@@ -77,7 +77,14 @@ impl Refusal {
             | Refusal::VariablePart
             | Refusal::OptionalPart
             | Refusal::CreditMisfit => Layer::Message,
-            _ => Layer::Node,
+            Refusal::MemorySize
+            | Refusal::NoSuchReference
+            | Refusal::OutOfLimits
+            | Refusal::WrongState
+            | Refusal::WrongClass
+            | Refusal::NoIdleRecord
+            | Refusal::WrongPlace
+            | Refusal::WindowFull => Layer::Node,
         }
     }
 

@@ -17,9 +17,17 @@ use Rattle.route.specs.Stored.{message_of}
 use Rattle.route.specs.Ways.{Messages, without}
 use Rattle.pile.specs.declared.records.Waiting.{Waiting}
 use Rattle.pile.specs.declared.records.Record.{Record}
-use Rattle.pile.specs.Numbers.{is_free, toward_end, waits, FreeAt, unoccupied, waiting, holders, Numbered, message_numbered, in_order, moved_up, with_moved_up}
+use Rattle.pile.specs.Numbers.{is_free, toward_end, waits, waiting, holders, Numbered, message_numbered, in_order, moved_up, with_moved_up}
 use Rattle.pile.specs.Sound.{length-order, at_order}
 use Rattle.pile.proofs.Sums.{sum_over, sum_parts, sum_ones}
+
+-- the record at the place i is free
+abbrev pub FreeAt : List Record → ℕ → Type 0
+FreeAt l i = (i < length l) × ((d : Record) → (slice_index_or l i d).tag ≡ None)
+
+-- how many records are free
+abbrev pub unoccupied : List Record → ℕ
+unoccupied l = count_by (λ r. is_free r.tag) l
 
 -- one record counted anew
 count_set : (p : Record → Bool) (l : List Record) (i : ℕ) (r : Record) → i < length l → p (slice_index_or l i r) ≡ false → count_by p (slice_set l i r) ≡ count_by p l + cond (p r) 1 0

@@ -17,9 +17,9 @@ use Rattle.pile.specs.Held.{pile_ways}
 use Rattle.route.proofs.Calls.{queue_of, changed_by}
 use Rattle.pile.specs.declared.records.Record.{Record}
 use Rattle.pile.specs.declared.records.Waiting.{Waiting}
-use Rattle.pile.specs.Numbers.{is_free, waits, unoccupied, FreeAt, waiting, holders, Numbered, in_order, with_moved_up}
+use Rattle.pile.specs.Numbers.{is_free, waits, waiting, holders, Numbered, in_order, with_moved_up}
 use Rattle.pile.specs.Sound.{length-order, at_order, found}
-use Rattle.pile.proofs.Changes.{record_of, some_numbered, none_numbered, removed_same, removed_other, added_same, added_other}
+use Rattle.pile.proofs.Changes.{FreeAt, unoccupied, record_of, some_numbered, none_numbered, removed_same, removed_other, added_same, added_other}
 
 -- what records mean at a capacity
 abbrev pub means : List Record → ℕ → Ways

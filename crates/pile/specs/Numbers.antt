@@ -1,5 +1,5 @@
 -- The records of a pile, by what they are used for.
-use Rattle.std.specs.Prelude.{◌≡◌, ℕ, ◌-◌, ◌<◌, Option, None, Some, Bool, true, false, cond, ◌&&◌, List, [], map, length, count_by, find, ◌==◌, nat_lt, slice_index_or}
+use Rattle.std.specs.Prelude.{◌≡◌, ℕ, ◌-◌, Option, None, Some, Bool, true, false, cond, ◌&&◌, List, [], map, count_by, find, ◌==◌, nat_lt}
 use Rattle.std.specs.List.{range_with_len}
 use Rattle.std.specs.Option.{option_map_or}
 use Rattle.route.specs.Ends.{end_number}
@@ -22,14 +22,6 @@ toward_end e (Some w) = end_number w.end == e
 abbrev pub waits : ℕ → ℕ → Option Waiting → Bool
 waits e k None = false
 waits e k (Some w) = end_number w.end == e && w.number == k
-
--- the record at the place i is free
-abbrev pub FreeAt : List Record → ℕ → Type 0
-FreeAt l i = (i < length l) × ((d : Record) → (slice_index_or l i d).tag ≡ None)
-
--- how many records are free
-abbrev pub unoccupied : List Record → ℕ
-unoccupied l = count_by (λ r. is_free r.tag) l
 
 -- how many messages wait toward the end e
 abbrev pub waiting : ℕ → List Record → ℕ

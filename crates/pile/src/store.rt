@@ -3,7 +3,7 @@ ghost use Rattle.pile.specs.Numbers.{waiting, Numbered};
 
 use crate::records::Record;
 
-// Records in no particular order. Half of them, rounded down, is the capacity for each end.
+// Records in no particular order, for a pile is to show that order is a matter of numbers alone. Half of them, rounded down, is the capacity for each end.
 #[derive(Drop)]
 pub struct Pile {
     pub(crate) records: Vec<Record>,

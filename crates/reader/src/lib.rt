@@ -39,8 +39,8 @@ struct Pointer {
 impl<'a> Reader<'a> {
     // The message has its type, fixed fields and pointers, which are `size` octets.
     #[tactic(auto, unfolding(crate::specs::Reading::header))]
-    fn header(&mut self, size: usize) -> Result<(), Fault>
-        ensures { outcome nothing result self.new ≡ reading.header size self.old }
+    fn header(&self, size: usize) -> Result<(), Fault>
+        ensures { outcome nothing result self.now ≡ reading.header size self.now }
     {
         if self.octets.len() < size {
             return Err(Refusal::CutShort.at(self.octets.len()));
@@ -62,8 +62,8 @@ impl<'a> Reader<'a> {
 
     // The message ends here, or a refusal at the first octet left.
     #[tactic(auto, unfolding(crate::specs::Reading::ends))]
-    fn ends(&mut self, left: Refusal) -> Result<(), Fault>
-        ensures { outcome nothing result self.new ≡ reading.ends left self.old }
+    fn ends(&self, left: Refusal) -> Result<(), Fault>
+        ensures { outcome nothing result self.now ≡ reading.ends left self.now }
     {
         if self.at < self.octets.len() {
             return Err(left.at(self.at));
@@ -109,7 +109,7 @@ impl<'a> Reader<'a> {
         T::try_from(octet).map_err(|refusal| refusal.at(place))
     }
 
-    // M by itself in an octet.
+    // M by itself in an octet. No `field`, for bool has no conversion from an octet.
     #[tactic(auto, unfolding(crate::specs::Reading::field))]
     fn more(&mut self) -> Result<bool, Fault>
         ensures { outcome more_octet result self.new ≡ reading.field 0 1 self.old }

@@ -1,6 +1,6 @@
 // The variable part and the optional part of a message.
 ghost use Rattle.std.specs.Prelude.{◌≡◌, ◌<◌};
-ghost use Rattle.message.specs.Meaning.{classes, number_of_class};
+ghost use Rattle.message.specs.Meaning.{classes, class_octet};
 ghost use Rattle.reader.specs.Window.{outcome, nothing};
 ghost use Rattle.reader.specs.Reading as reading;
 
@@ -11,8 +11,8 @@ use message::kind;
 
 impl<'a> Reader<'a> {
     #[tactic(auto, unfolding(crate::specs::Reading::points_here))]
-    pub(crate) fn points_here(&mut self, pointer: Pointer) -> Result<(), Fault>
-        ensures { outcome nothing result self.new ≡ reading.points_here (pointer.place, pointer.distance) self.old }
+    pub(crate) fn points_here(&self, pointer: Pointer) -> Result<(), Fault>
+        ensures { outcome nothing result self.now ≡ reading.points_here (pointer.place, pointer.distance) self.now }
     {
         if self.at.checked_sub(pointer.place) == Some(usize::from(pointer.distance)) {
             Ok(())
@@ -123,7 +123,7 @@ pub(crate) fn agreed(
     class: ClassNumber,
     found: Option<u8>,
 ) -> Result<ProtocolClass, Fault>
-    ensures { classes result ≡ reading.agreed place (number_of_class class) found }
+    ensures { classes result ≡ reading.agreed place (class_octet class) found }
 {
     match (class, found) {
         (ClassNumber::Two, None) => Ok(ProtocolClass::Class2),

@@ -10,7 +10,7 @@ use message::kind;
 pub fn check_length(message: &[u8]) -> Result<(), Fault>
     ensures { result ≡ (if message_sized message.now then Ok tt else refused MessageLength) }
 {
-    if message.is_empty() || message.len() > kind::LARGEST_MESSAGE {
+    if !(1..=kind::LARGEST_MESSAGE).contains(&message.len()) {
         return Err(Refusal::MessageLength.at(0));
     }
     Ok(())

@@ -11,7 +11,7 @@ pub enum End {
 }
 
 impl End {
-    // Its place among the two.
+    // Its place among the two: a method, for that an end is an index is the business of arrays of two alone.
     pub fn index(self) -> usize
         ensures value { result ≡ end_number self }
         ensures below { result < 2 }

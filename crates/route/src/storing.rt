@@ -22,7 +22,7 @@ impl Slot {
     pub fn message(&self) -> &[u8]
         ensures { result.now ≡ message_of self.now }
     {
-        &self.octets[0..self.size as usize]
+        &self.octets[0..usize::from(self.size)]
     }
 }
 

@@ -15,8 +15,7 @@ use message::content::{
     Subsystem,
 };
 use message::fault::{Fault, Refusal};
-use message::kind;
-use message::kind::MessageType;
+use message::kind::{self, MessageType};
 
 mod example;
 #[cfg(test)]
@@ -24,7 +23,8 @@ mod tests;
 
 pub use example::example_request;
 
-// The octets of a message in front of its data: at most 14, and all of them but in DT1 and DT2.
+// The octets of a message in front of its data: at most 14, and all of them but in DT1 and DT2. Layouts are written as arrays,
+// octet by octet as they stand on the line, and not added up piece by piece.
 type Front = ArrayVec<u8, 14>;
 
 // Writes a message to the front of a buffer of at least 268 octets, and answers its size. The rest of the buffer keeps its contents.
@@ -224,7 +224,7 @@ fn data_form_1(destination: Reference, more: bool, data: &[u8]) -> Front
         d0,
         d1,
         d2,
-        more as u8,
+        u8::from(more),
         1,
         size,
     ])
@@ -250,7 +250,7 @@ fn data_form_2(
         d1,
         d2,
         send.0 * 2,
-        receive.0 * 2 + more as u8,
+        receive.0 * 2 + u8::from(more),
         1,
         size,
     ])

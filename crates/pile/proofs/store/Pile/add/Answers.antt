@@ -1,6 +1,5 @@
 use Rattle.std.proofs.Common.{◌≡◌, ◌/◌, None, Some, ap, ◌∙◌, arith}
-use Rattle.pile.specs.Numbers.{unoccupied}
-use Rattle.pile.proofs.Changes.{some_free, added_within, added_numbered}
+use Rattle.pile.proofs.Changes.{unoccupied, some_free, added_within, added_numbered}
 use Rattle.pile.proofs.Means.{counted, added_means, free_found}
 use Rattle.pile.proofs.store.Pile.add.Goals as goal
 
