@@ -1,6 +1,6 @@
 // The checks that all routes share.
-ghost use Rattle.std.specs.Prelude.{◌≡◌, min, if◌then◌else◌, Ok};
-ghost use Rattle.message.specs.declared.fault.Refusal.TheVariants.{MessageLength};
+ghost use Rattle.std.specs.Prelude.{◌≡◌, min, length, nat_lt, if◌then◌else◌, Ok};
+ghost use Rattle.message.specs.declared.fault.Refusal.TheVariants.{MemorySize, MessageLength};
 ghost use Rattle.route.specs.Ways.{refused, message_sized, most};
 
 use message::fault::{Fault, Refusal};
@@ -12,6 +12,16 @@ pub fn check_length(message: &[u8]) -> Result<(), Fault>
 {
     if !(1..=kind::LARGEST_MESSAGE).contains(&message.len()) {
         return Err(Refusal::MessageLength.at(0));
+    }
+    Ok(())
+}
+
+// A buffer for a message has at least 268 octets.
+pub fn check_buffer(buffer: &[u8]) -> Result<(), Fault>
+    ensures { result ≡ (if nat_lt (length buffer.now) 268 then refused MemorySize else Ok tt) }
+{
+    if buffer.len() < kind::LARGEST_MESSAGE {
+        return Err(Refusal::MemorySize.at(0));
     }
     Ok(())
 }

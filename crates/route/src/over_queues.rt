@@ -1,13 +1,12 @@
 // The calls of a route, over queues.
 ghost use Rattle.std.specs.Prelude.{◌≡◌};
 
-use crate::checks::capped;
+use crate::checks::{capped, check_buffer};
 use crate::end::End;
 use crate::queues::Queues;
 use crate::slot::Slot;
 use crate::{BenchRoute, Route};
 use message::fault::{Fault, Refusal};
-use message::kind;
 
 impl<Q: Queues> Route for Q {
     ghost ways = { λ q. Q.Queues.ways q };
@@ -21,9 +20,7 @@ impl<Q: Queues> Route for Q {
     }
 
     fn take(&mut self, end: u32, buffer: &mut [u8]) -> Result<usize, Fault> {
-        if buffer.len() < kind::LARGEST_MESSAGE {
-            return Err(Refusal::MemorySize.at(0));
-        }
+        check_buffer(buffer)?;
         let end = End::try_from(end)?;
         let slot = self.remove(end, 0).ok_or(Refusal::NoMessage.at(0))?;
         let message = slot.message();

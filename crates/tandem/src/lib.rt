@@ -8,7 +8,7 @@ ghost use Rattle.tandem.specs.Sound.{sound_joined};
 
 use message::fault::{Fault, Refusal};
 use message::kind;
-use route::checks::check_length;
+use route::checks::{check_buffer, check_length};
 use route::{BenchRoute, End, Route};
 
 // Messages go into the first, move on to the second, and are taken from there: the second's are the older ones.
@@ -62,9 +62,7 @@ impl<A: Route, B: Route> Route for Tandem<A, B> {
 
     #[tactic(auto, using(crate::proofs::Rows::take_first, crate::proofs::Rows::take_second))]
     fn take(&mut self, end: u32, buffer: &mut [u8]) -> Result<usize, Fault> {
-        if buffer.len() < kind::LARGEST_MESSAGE {
-            return Err(Refusal::MemorySize.at(0));
-        }
+        check_buffer(buffer)?;
         if self.second.count(end)? == 0 {
             self.first.take(end, buffer)
         } else {
