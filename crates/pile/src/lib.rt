@@ -39,21 +39,6 @@ impl Pile {
         Ok(Pile { records })
     }
 
-    // Adds a message behind those toward an end.
-    fn add(&mut self, end: End, slot: Slot)
-        requires { length (queue end (pile_ways self.old)) < (pile_ways self.old).capacity }
-        ensures { pile_ways self.new ≡ with_queue end (λ q. q ++ message_of slot ∷ []) (pile_ways self.old) }
-    {
-        let number = self.waiting(end);
-        let Some(place) = free_place(&self.records) else {
-            unreachable!()
-        };
-        self.records[place] = Record {
-            tag: Some(Waiting { end, number }),
-            slot,
-        };
-    }
-
     // The message at a position toward an end goes: those behind it move up.
     fn close_gap(&mut self, end: End, position: usize)
         requires { position < length (queue end (pile_ways self.old)) }
@@ -81,7 +66,14 @@ impl Queues for Pile {
         if self.spare(end) == 0 {
             return Err(slot);
         }
-        self.add(end, slot);
+        let number = self.waiting(end);
+        let Some(place) = free_place(&self.records) else {
+            unreachable!()
+        };
+        self.records[place] = Record {
+            tag: Some(Waiting { end, number }),
+            slot,
+        };
         Ok(())
     }
 

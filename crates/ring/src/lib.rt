@@ -68,17 +68,6 @@ impl Ring {
         2 * self.wrapped(at) + end.index()
     }
 
-    // Adds a message behind those toward an end.
-    fn add(&mut self, end: End, slot: Slot)
-        requires { length (queue end (ring_ways self.old)) < self.old.capacity }
-        ensures { ring_ways self.new ≡ with_queue end (λ q. q ++ message_of slot ∷ []) (ring_ways self.old) }
-    {
-        let count = self.waiting(end);
-        let at = self.place(end, count);
-        self.slots[at] = slot;
-        self.ends[end.index()].count = count + 1;
-    }
-
     // Moves the messages ahead of a position one turn behind, over the message that stands there. At the oldest nothing moves.
     fn close_gap(&mut self, end: End, position: usize)
         requires { position < length (queue end (ring_ways self.old)) }
@@ -115,10 +104,13 @@ impl Queues for Ring {
     }
 
     fn push(&mut self, end: End, slot: Slot) -> Result<(), Slot> {
-        if self.spare(end) == 0 {
+        let count = self.waiting(end);
+        if count >= self.capacity {
             return Err(slot);
         }
-        self.add(end, slot);
+        let at = self.place(end, count);
+        self.slots[at] = slot;
+        self.ends[end.index()].count = count + 1;
         Ok(())
     }
 

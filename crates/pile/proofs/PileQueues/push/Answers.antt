@@ -1,7 +1,7 @@
 use Rattle.std.proofs.Common.{◌≡◌, ◌/◌, None, Some, ap, ◌∙◌, arith}
 use Rattle.pile.proofs.Changes.{unoccupied, some_free, added_within, added_numbered}
 use Rattle.pile.proofs.Means.{counted, added_means, free_found}
-use Rattle.pile.proofs.store.Pile.add.Goals as goal
+use Rattle.pile.proofs.PileQueues.push.Goals as goal
 
 pub unreachable-requires : goal.unreachable-requires
 unreachable-requires c =
@@ -10,7 +10,7 @@ unreachable-requires c =
     let l = p.records.items in
     let half = ap (λ v. v / 2) p.records.ok.0 in
     let none : unoccupied l ≡ 0 = free_found l _ None c.deref.ensures.value c.in_default.ensures in
-    let some = some_free end l (omega (arith, c.requires, counted p end)) (λ d. omega (arith, p.within d)) in
+    let some = some_free end l (omega (arith, c.spare.ensures, c.if-spare-eq0.false, counted p end)) (λ d. omega (arith, p.within d)) in
     omega arith
 
 pub invariant_of-self : goal.invariant_of-self
@@ -22,12 +22,12 @@ invariant_of-self c =
     let free = free_found l _ (Some i) c.deref.ensures.value c.in-Some.ensures in
     record {
       some = p.some;
-      within = added_within end _ _ l i (p.records.len / 2) free (omega (arith, c.requires, counted p end)) p.within;
+      within = added_within end _ _ l i (p.records.len / 2) free (omega (arith, c.spare.ensures, c.if-spare-eq0.false, counted p end)) p.within;
       numbered = added_numbered end c.waiting-number.result _ l i (c.waiting-number.ensures ∙ counted p end) p.numbered free;
     }
 
-pub returns : goal.returns
-returns c =
+pub returns-clause-added : goal.returns-clause-added
+returns-clause-added c =
     let p = c.args.self.now in
     let end = c.args.end in
     let l = p.records.items in

@@ -4,10 +4,10 @@ use Rattle.route.specs.Stored.{message_of}
 use Rattle.route.proofs.Calls.{two_ends}
 use Rattle.ring.specs.Rounds.{place, turns_of}
 use Rattle.ring.proofs.Writes.{counted, turns_put, turns_other, written}
-use Rattle.ring.proofs.ring.Ring.add.Goals as goal
+use Rattle.ring.proofs.RingQueues.push.Goals as goal
 
-pub returns : goal.returns
-returns c =
+pub returns-clause-added : goal.returns-clause-added
+returns-clause-added c =
     let r = c.args.self.now in
     let e = end_number c.args.end in
     let n = r.capacity in
@@ -18,7 +18,7 @@ returns c =
     let i = c.index.ensures.value in
     let k : c.waiting-count.result ≡ t.count = c.waiting-count.ensures ∙ counted r c.args.end in
     let p : c.place-at.result ≡ place e n t.oldest t.count = c.place-at.ensures.value ∙ ap (place e n t.oldest) k in
-    let room : t.count < n = omega (arith, c.requires, counted r c.args.end) in
+    let room : t.count < n = omega (arith, c.if-count-self.false, k) in
     let space : n + n ≤ length l = omega (arith, r.halves, r.slots.ok.0) in
     written c.args.end (λ q. q ++ (message_of x ∷ [])) r r (set l c.place-at.result x) c.index.result _ i (omega arith) refl
     (rw (i, p, k) (turns_put l x e n t.oldest t.count two (r.inside e two) room space))
