@@ -1,4 +1,4 @@
--- Sums over a list that is changed, over two parts, and of ones.
+-- Sums over a list that is changed, over two parts, of nothing, and of ones.
 use Rattle.std.proofs.Common.{◌≡◌, ℕ, ◌+◌, List, [], ◌∷◌, map, length, sum_by, refl, arith}
 use Rattle.std.proofs.lemmas.List.Sums.{sum_by-cons}
 
@@ -15,6 +15,10 @@ sum_parts f g h e (x ∷ l) =
     let rest = sum_parts f g h e l in
     let here = e x in
     omega (arith, sum_by-cons f x l, sum_by-cons g x l, sum_by-cons h x l)
+
+pub sum_none : {X : Type 0} (f : X → ℕ) → ((x : X) → f x ≡ 0) → (l : List X) → sum_by f l ≡ 0
+sum_none f e [] = refl
+sum_none f e (x ∷ l) = let rest = sum_none f e l in let here = e x in omega (arith, sum_by-cons f x l)
 
 pub sum_ones : {X : Type 0} (l : List X) → sum_by (λ _. 1) l ≡ length l
 sum_ones [] = refl

@@ -27,15 +27,15 @@ counted r end =
     ap length (queue_of end (queue r) r.capacity) ∙ length-turns r.slots.items (end_number end) r.capacity t.oldest t.count
 
 -- a list that has the message of each turn
-is_turns : (xs : Messages) (l : List Slot) (e n h c : ℕ) → length xs ≡ c → ((k : ℕ) → k < c → slice_index_or xs k [] ≡ turn l e n h k) → xs ≡ turns l e n h c
+pub is_turns : (xs : Messages) (l : List Slot) (e n h c : ℕ) → length xs ≡ c → ((k : ℕ) → k < c → slice_index_or xs k [] ≡ turn l e n h k) → xs ≡ turns l e n h c
 is_turns xs l e n h c p f = fill_by_all (turn l e n h) xs c [] p f
 
-at_same : (l : List Slot) (p : ℕ) (x : Slot) → p < length l → message_at (slice_set l p x) p ≡ message_of x
+pub at_same : (l : List Slot) (p : ℕ) (x : Slot) → p < length l → message_at (slice_set l p x) p ≡ message_of x
 at_same l p x h =
     let k : p < length (map message_of l) = omega (arith, length-map l message_of) in
     ap (λ v. get_or v p []) (map-set message_of l p x) ∙ get_or-set_same (map message_of l) p (message_of x) [] k
 
-at_other : (l : List Slot) (p q : ℕ) (x : Slot) → q ≢ p → message_at (slice_set l p x) q ≡ message_at l q
+pub at_other : (l : List Slot) (p q : ℕ) (x : Slot) → q ≢ p → message_at (slice_set l p x) q ≡ message_at l q
 at_other l p q x z = ap (λ v. get_or v q []) (map-set message_of l p x) ∙ get_or-set_other (map message_of l) p q (message_of x) [] z
 
 pub at_read : (l : List Slot) (p : ℕ) (d : Slot) → p < length l → message_of (slice_index_or l p d) ≡ message_at l p
@@ -60,39 +60,39 @@ turns_put l x e n h c p a b i =
     ∙ ap (λ v. turns l e n h c ++ (v ∷ [])) (at_same l (place e n h c) x (omega (arith, place_below e n h c p a b)))
 
 -- the turn that stood where the turn j stands once those from k to i - 1 have moved one turn behind
-abbrev pub shifted : ℕ → ℕ → ℕ → ℕ
-shifted k i j = cond (nat_lt k j && nat_le j i) (j - 1) j
+abbrev pub moved_behind : ℕ → ℕ → ℕ → ℕ
+moved_behind k i j = cond (nat_lt k j && nat_le j i) (j - 1) j
 
 -- one turn more moves behind
-pub shift_more : (q : Messages) (l : List Slot) (x : Slot) (e n h i k c : ℕ) → e < 2 → h < n → c ≤ n → n + n ≤ length l → k < i → i < c →
+pub moved_more : (q : Messages) (l : List Slot) (x : Slot) (e n h i k c : ℕ) → e < 2 → h < n → c ≤ n → n + n ≤ length l → k < i → i < c →
     message_of x ≡ turn l e n h k →
-    ((j : ℕ) → j < c → turn l e n h j ≡ slice_index_or q (shifted (k + 1) i j) []) →
-    (j : ℕ) → j < c → turn (slice_set l (place e n h (k + 1)) x) e n h j ≡ slice_index_or q (shifted k i j) []
-shift_more q l x e n h i k c p a b s d z read f j g =
+    ((j : ℕ) → j < c → turn l e n h j ≡ slice_index_or q (moved_behind (k + 1) i j) []) →
+    (j : ℕ) → j < c → turn (slice_set l (place e n h (k + 1)) x) e n h j ≡ slice_index_or q (moved_behind k i j) []
+moved_more q l x e n h i k c p a b s d z read f j g =
     let l' : List Slot = set l (place e n h (k + 1)) x in
-    let P : ℕ → Type 0 = λ v. turn l' e n h v ≡ get_or q (shifted k i v) [] in
+    let P : ℕ → Type 0 = λ v. turn l' e n h v ≡ get_or q (moved_behind k i v) [] in
     ⊎_elim
     (λ (y : j ≡ k + 1). subst P (sym y)
     (at_same l (place e n h (k + 1)) x (omega (arith, place_below e n h (k + 1) p a (omega arith))) ∙ read ∙ f k (omega arith)
-    ∙ ap (λ v. get_or q v []) (let t : shifted (k + 1) i k ≡ shifted k i (k + 1) = grind (arith, nat_tests) in t)))
+    ∙ ap (λ v. get_or q v []) (let t : moved_behind (k + 1) i k ≡ moved_behind k i (k + 1) = grind (arith, nat_tests) in t)))
     (λ y. at_other l (place e n h (k + 1)) (place e n h j) x (place_apart e n h j (k + 1) a (omega arith) (omega arith) y) ∙ f j g
-    ∙ ap (λ v. get_or q v []) (let t : shifted (k + 1) i j ≡ shifted k i j = grind (arith, nat_tests) in t))
+    ∙ ap (λ v. get_or q v []) (let t : moved_behind (k + 1) i j ≡ moved_behind k i j = grind (arith, nat_tests) in t))
     (cases_eq j (k + 1))
 
 -- all ahead of the turn i have moved one turn behind, and the turns begin one place on
-pub turns_lose : (q : Messages) (l : List Slot) (e n h i c m : ℕ) → h < n → i < c → c ≤ n → m + 1 ≡ c → length q ≡ c →
-    ((j : ℕ) → j < c → turn l e n h j ≡ slice_index_or q (shifted 0 i j) []) → turns l e n (wrap n (h + 1)) m ≡ without i q
-turns_lose q l e n h i c m a b d z lq f =
+pub turns_without : (q : Messages) (l : List Slot) (e n h i c m : ℕ) → h < n → i < c → c ≤ n → m + 1 ≡ c → length q ≡ c →
+    ((j : ℕ) → j < c → turn l e n h j ≡ slice_index_or q (moved_behind 0 i j) []) → turns l e n (wrap n (h + 1)) m ≡ without i q
+turns_without q l e n h i c m a b d z lq f =
     let bq : i < length q = omega arith in
-    let moved : (k : ℕ) → k < m → turn l e n (wrap n (h + 1)) k ≡ get_or q (shifted 0 i (1 + k)) [] =
+    let moved : (k : ℕ) → k < m → turn l e n (wrap n (h + 1)) k ≡ get_or q (moved_behind 0 i (1 + k)) [] =
     λ k y. ap (message_at l) (place_next e n h k a (omega arith)) ∙ f (1 + k) (omega arith) in
     let r : Messages = take i q ++ drop (suc i) q in
     let back : r ≡ turns l e n (wrap n (h + 1)) m = is_turns r l e n (wrap n (h + 1)) m (omega (arith, length-remove q i bq))
     (λ k y. ⊎_elim
     (λ (x : k < i). get_or-remove_below q i [] k x bq
-    ∙ ap (λ v. get_or q v []) (let t : k ≡ shifted 0 i (1 + k) = grind (arith, nat_tests) in t) ∙ sym (moved k y))
+    ∙ ap (λ v. get_or q v []) (let t : k ≡ moved_behind 0 i (1 + k) = grind (arith, nat_tests) in t) ∙ sym (moved k y))
     (λ (x : i ≤ k). get_or-remove_above q i [] k x bq
-    ∙ ap (λ v. get_or q v []) (let t : k + 1 ≡ shifted 0 i (1 + k) = grind (arith, nat_tests) in t) ∙ sym (moved k y))
+    ∙ ap (λ v. get_or q v []) (let t : k + 1 ≡ moved_behind 0 i (1 + k) = grind (arith, nat_tests) in t) ∙ sym (moved k y))
     (cases_lt k i)) in
     sym back ∙ ap (λ v. take i q ++ drop v q) (sym (add-one i))
 

@@ -7,7 +7,7 @@ use Rattle.route.proofs.Calls.{two_ends, queue_of}
 use Rattle.ring.specs.Rounds.{place, turns_of}
 use Rattle.ring.specs.Turns.{message_at, queue}
 use Rattle.ring.specs.Sound.{length-turns, at_turns}
-use Rattle.ring.proofs.Writes.{at_read, turns_other, turns_lose, shifted, shift_more, written}
+use Rattle.ring.proofs.Writes.{at_read, turns_other, turns_without, moved_behind, moved_more, written}
 use Rattle.ring.proofs.ring.Ring.close_gap.Goals as goal
 
 pub loop-turn-init : goal.loop-turn-init
@@ -19,7 +19,7 @@ loop-turn-init c =
       capacity = refl;
       count = sym (length-turns r.slots.items e r.capacity t.oldest t.count);
       here = λ j h. sym (at_turns r.slots.items e r.capacity t.oldest t.count j h)
-          ∙ ap (λ v. get_or (queue r e) v []) (let s : j ≡ shifted c.args.position c.args.position j = grind (arith, nat_tests) in s);
+          ∙ ap (λ v. get_or (queue r e) v []) (let s : j ≡ moved_behind c.args.position c.args.position j = grind (arith, nat_tests) in s);
       there = λ d h z. refl;
     }
 
@@ -48,7 +48,7 @@ loop-turn-preserved c =
     record {
       capacity = inv.capacity;
       count = inv.count;
-      here = rw to (shift_more (queue r e) l x e n t.oldest c.args.position k t.count two inside within space gap i read (rw back inv.here));
+      here = rw to (moved_more (queue r e) l x e n t.oldest c.args.position k t.count two inside within space gap i read (rw back inv.here));
       there = λ d h z. rw to (turns_other l x d e n (turns_of s.ends d).oldest t.oldest (turns_of s.ends d).count (k + 1) h two z (s.inside d h) inside (s.within d h) (omega arith)) ∙ inv.there d h z;
     }
 
@@ -65,6 +65,6 @@ returns c =
     let i : c.args.position < t.count = omega (arith, inv.count, c.requires, ap length (queue_of c.args.end (queue r) r.capacity)) in
     let last : c.loop-turn.turn ≡ 0 = omega (arith, c.loop-turn-test.false) in
     written c.args.end (without c.args.position) r s s.slots.items c.index.result _ c.index.ensures.value (omega arith) inv.capacity
-    (rw (c.wrapped-oldest.ensures.value, c.turns-oldest.ensures) (turns_lose q s.slots.items e n t.oldest c.args.position t.count (t.count - 1) (s.inside e two) i (s.within e two) (omega arith) (sym inv.count)
-    (λ j h. inv.here j h ∙ ap (λ v. get_or q (shifted v c.args.position j) []) last)))
+    (rw (c.wrapped-oldest.ensures.value, c.turns-oldest.ensures) (turns_without q s.slots.items e n t.oldest c.args.position t.count (t.count - 1) (s.inside e two) i (s.within e two) (omega arith) (sym inv.count)
+    (λ j h. inv.here j h ∙ ap (λ v. get_or q (moved_behind v c.args.position j) []) last)))
     inv.there

@@ -1,0 +1,23 @@
+-- A pile whose records are all free has no message, and its numbers are right.
+use Rattle.std.proofs.Common.{◌≡◌, ℕ, cond, List, [], map, ap, ◌∙◌, refl, None, arith}
+use Rattle.std.specs.List.{range_with_len}
+use Rattle.std.proofs.lemmas.Bool.Decides.{nat_tests}
+use Rattle.pile.specs.declared.records.Record.{Record}
+use Rattle.pile.specs.Numbers.{toward_end, waits, waiting, holders, Numbered, message_numbered, in_order}
+use Rattle.pile.proofs.Sums.{sum_over, sum_none}
+
+-- a record that is made free
+abbrev pub freed : Record → Record
+freed r = record { tag = None; slot = r.slot }
+
+pub none_waiting : (e : ℕ) (l : List Record) → waiting e (map freed l) ≡ 0
+none_waiting e l = sum_over freed (λ r. cond (toward_end e r.tag) 1 0) (λ _. 0) (λ r. refl) l ∙ sum_none (λ _. 0) (λ r. refl) l
+
+pub new_numbered : (l : List Record) → Numbered (map freed l)
+new_numbered l e k =
+    let w = none_waiting e l in
+    let o : holders e k (map freed l) ≡ 0 = sum_over freed (λ r. cond (waits e k r.tag) 1 0) (λ _. 0) (λ r. refl) l ∙ sum_none (λ _. 0) (λ r. refl) l in
+    grind (arith, nat_tests)
+
+pub new_order : (e : ℕ) (l : List Record) → in_order e (map freed l) ≡ []
+new_order e l = ap (λ n. map (λ k. message_numbered e k (map freed l)) (range_with_len 0 n)) (none_waiting e l)
