@@ -239,7 +239,7 @@ impl TryFrom<u8> for ClassNumber {
 }
 
 // Fields of one octet are types of their own, each with its limits. As one type with the limits for const parameters their
-// names would be aliases, by which no value can be made, and one body for both conversions takes a trait longer than the two.
+// names would be aliases, and no alias makes a value as Credit(4) does; a trait for both conversions is longer than the two.
 impl TryFrom<u8> for Cause {
     type Error = Refusal;
 

@@ -16,7 +16,7 @@ mod whole;
 
 pub use whole::read;
 
-// All octets of a message, and the place reached in them.
+// All octets of a message, and the place reached in them: not what is left of them alone, for refusals name places.
 #[derive(Drop)]
 struct Reader<'a> {
     octets: &'a [u8],
@@ -122,7 +122,7 @@ impl<'a> Reader<'a> {
         }
     }
 
-    // A sequence number by itself in an octet: twice its value.
+    // A sequence number by itself in an octet: twice its value, which is no conversion of SequenceNumber.
     #[tactic(auto, unfolding(crate::specs::Reading::sequence_number))]
     fn sequence_number(&mut self) -> Result<SequenceNumber, Fault>
         ensures { outcome (λ x. x.0) result self.new ≡ reading.sequence_number self.old }

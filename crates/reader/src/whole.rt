@@ -1,5 +1,4 @@
 // The eleven messages, each as its layout has it behind the type: fixed fields, pointers, the variable part, the optional part.
-// Two chains of as many steps, as those of AK and RSR, are no twins: what they read differs.
 ghost use Rattle.std.specs.Prelude.{◌≡◌, ◌<◌, true, ◌↔◌, IfOk, Ok};
 ghost use Rattle.message.specs.Content.{Content, within};
 ghost use Rattle.message.specs.Layout.{IsMessage};
@@ -15,6 +14,7 @@ use message::fault::{Fault, Refusal};
 use message::kind::{LARGEST_MESSAGE, MessageType};
 
 // What the octets of a message say, or why they are none.
+// The length is tested here, and not by a route's check: a reader knows of no routes.
 pub fn read<'a>(octets: &'a [u8]) -> Result<Message<'a>, Fault>
     ensures says { means result ≡ reading.reading octets.now }
     ensures laid_out { (c : Content) → (means result ≡ Ok c) ↔ IsMessage c octets.now }
@@ -170,6 +170,7 @@ impl<'a> Reader<'a> {
         })
     }
 
+    // As many steps as in `reset_request`, but no twin of it: what they read differs.
     #[tactic(auto, using(crate::proofs::Steps::field_converted))]
     fn data_acknowledgement(&mut self) -> Result<Message<'a>, Fault>
         ensures { means result ≡ reading.value (reading.data_acknowledgement self.old) }

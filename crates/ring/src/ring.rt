@@ -4,7 +4,8 @@ ghost use Rattle.ring.specs.Rounds.{turns_of};
 use crate::turns::Turns;
 use route::Slot;
 
-// Slots that are used in turn: the even ones for end 0, the odd ones for end 1.
+// Slots that are used in turn: the even ones for end 0, the odd ones for end 1. The capacity is half of the slots, rounded
+// down, and kept beside them, for every place is reckoned by it.
 #[derive(Drop)]
 pub struct Ring {
     pub(crate) slots: Vec<Slot>,

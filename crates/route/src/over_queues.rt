@@ -28,7 +28,7 @@ impl<Q: Queues> Route for Q {
         Ok(message.len())
     }
 
-    // COUNT and ROOM tell two numbers: all that one function for both could share is `capped`.
+    // COUNT and ROOM tell two numbers, in a line each: one function for both would take the number as a closure.
     fn count(&self, end: u32) -> Result<u32, Fault> {
         Ok(capped(self.waiting(End::try_from(end)?)))
     }

@@ -28,6 +28,7 @@ pub use example::example_request;
 type Front = ArrayVec<u8, 14>;
 
 // Writes a message to the front of a buffer of at least 268 octets, and answers its size. The rest of the buffer keeps its contents.
+// The buffer is the caller's, since nothing is allocated, and it is tested here, for a writer knows of no routes.
 pub fn write(message: Message<'_>, buffer: &mut [u8]) -> Result<usize, Fault>
     ensures answer { result ≡ written_answer (meaning message.entry) buffer.old }
     ensures after { buffer.new ≡ written_buffer (meaning message.entry) buffer.old }
