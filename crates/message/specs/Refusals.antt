@@ -1,5 +1,5 @@
 -- The number and the layer of each refusal.
-use Rattle.std.specs.Prelude.{ℕ}
+use Rattle.std.specs.Prelude.{◌≡◌, ℕ}
 use Rattle.message.specs.declared.fault.Layer.{Layer}
 use Rattle.message.specs.declared.fault.Layer.TheVariants.{Route, Message, Node}
 use Rattle.message.specs.declared.fault.Refusal.{Refusal}
@@ -25,6 +25,10 @@ number NoIdleRecord = 15
 number WrongPlace = 16
 number WindowFull = 17
 number WayFull = 18
+
+-- no number is given out twice
+abbrev pub NumbersApart : Type 0
+NumbersApart = (a b : Refusal) → number a ≡ number b → a ≡ b
 
 -- the part of the stack that refuses: the way and its lists, the message's octets, or the node with its table
 abbrev pub layer : Refusal → Layer

@@ -1,6 +1,6 @@
 // Why a call is refused: the one error type of the whole stack.
 ghost use Rattle.std.specs.Prelude.{◌≡◌};
-ghost use Rattle.message.specs.Refusals.{number as number_of, layer as layer_of};
+ghost use Rattle.message.specs.Refusals.{number as number_of, layer as layer_of, NumbersApart};
 
 // The part of the stack that refuses.
 #[derive(Clone, Copy, PartialEq, Eq, Debug)]
@@ -59,8 +59,10 @@ pub struct Fault {
 }
 
 impl Refusal {
+    #[tactic(auto, using(crate::proofs::Numbers::numbers_apart))]
     pub fn number(self) -> u8
-        ensures { result ≡ number_of self }
+        ensures value { result ≡ number_of self }
+        ensures apart { NumbersApart }
     {
         self as u8
     }
