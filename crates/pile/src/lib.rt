@@ -1,85 +1,9 @@
 // Queues in records that stand in no particular order, each with its end and its queue number.
 #![tactic(auto)]
 
-ghost use Rattle.std.specs.Prelude.{◌≡◌, ◌/◌, ◌<◌, ◌≤◌, ◌↔◌, [], ◌∷◌, ◌++◌, length, IsOk, IfOk, IsErrOf, vec_len};
-ghost use Rattle.message.specs.declared.fault.Refusal.TheVariants.{MemorySize};
-ghost use Rattle.route.specs.Queues.{queue, with_queue};
-ghost use Rattle.route.specs.Stored.{message_of};
-ghost use Rattle.route.specs.Ways.{empty_ways, without};
-ghost use Rattle.pile.specs.Held.{pile_ways};
-ghost use Rattle.pile.specs.Sound.{pile_sound};
-
-use message::fault::{Fault, Refusal};
-use records::Waiting;
-use route::{End, Queues, Slot};
-use upkeep::{count_toward, free_place, move_up, slot_numbered};
-
 mod records;
 mod store;
 mod upkeep;
-mod uses;
 
 pub use records::Record;
 pub use store::Pile;
-
-// One record for each end.
-const FEWEST_RECORDS: usize = 2;
-
-impl Pile {
-    // An empty pile in at least two records, which it makes free.
-    pub fn new(mut records: Vec<Record>) -> Result<Pile, Fault>
-        ensures made { IsOk result ↔ (2 ≤ vec_len records) }
-        ensures empty { IfOk result (λ pile. pile_ways pile ≡ empty_ways (vec_len records / 2)) }
-        ensures refused { IsErrOf result (record { refusal = MemorySize; place = 0 }) ↔ (vec_len records < 2) }
-    {
-        if records.len() < FEWEST_RECORDS {
-            return Err(Refusal::MemorySize.at(0));
-        }
-        records.fill(Record::unused());
-        Ok(Pile { records })
-    }
-
-    // The message at a position toward an end goes: those behind it move up.
-    fn close_gap(&mut self, end: End, position: usize)
-        requires { position < length (queue end (pile_ways self.old)) }
-        ensures { pile_ways self.new ≡ with_queue end (without position) (pile_ways self.old) }
-    {
-        move_up(&mut self.records, end, position);
-    }
-}
-
-impl Queues for Pile {
-    ghost ways = { pile_ways };
-
-    ghost sound = { pile_sound };
-
-    fn waiting(&self, end: End) -> usize {
-        count_toward(&self.records, end)
-    }
-
-    #[tactic(auto, using(crate::proofs::Means::fits))]
-    fn spare(&self, end: End) -> usize {
-        self.records.len() / 2 - self.waiting(end)
-    }
-
-    fn push(&mut self, end: End, slot: Slot) -> Result<(), Slot> {
-        if self.spare(end) == 0 {
-            return Err(slot);
-        }
-        let number = self.waiting(end);
-        let Some(place) = free_place(&self.records) else {
-            unreachable!()
-        };
-        self.records[place] = Record {
-            tag: Some(Waiting { end, number }),
-            slot,
-        };
-        Ok(())
-    }
-
-    fn remove(&mut self, end: End, position: usize) -> Option<Slot> {
-        let slot = slot_numbered(&self.records, end, position)?;
-        self.close_gap(end, position);
-        Some(slot)
-    }
-}

@@ -16,7 +16,6 @@ mod over_queues;
 mod passing;
 mod queues;
 mod slot;
-mod storing;
 
 pub use end::End;
 pub use passing::pass;

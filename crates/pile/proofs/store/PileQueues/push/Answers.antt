@@ -1,7 +1,7 @@
 use Rattle.std.proofs.Common.{◌≡◌, ◌/◌, None, Some, ap, ◌∙◌, arith}
 use Rattle.pile.proofs.Changes.{unoccupied, some_free, added_within, added_numbered}
 use Rattle.pile.proofs.Means.{counted, added_means, free_found}
-use Rattle.pile.proofs.PileQueues.push.Goals as goal
+use Rattle.pile.proofs.store.PileQueues.push.Goals as goal
 
 pub unreachable-requires : goal.unreachable-requires
 unreachable-requires c =

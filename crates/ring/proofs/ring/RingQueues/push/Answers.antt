@@ -4,7 +4,7 @@ use Rattle.route.specs.Stored.{message_of}
 use Rattle.route.proofs.Calls.{two_ends}
 use Rattle.ring.specs.Rounds.{place, turns_of}
 use Rattle.ring.proofs.Writes.{counted, turns_put, turns_other, written}
-use Rattle.ring.proofs.RingQueues.push.Goals as goal
+use Rattle.ring.proofs.ring.RingQueues.push.Goals as goal
 
 pub returns-clause-added : goal.returns-clause-added
 returns-clause-added c =

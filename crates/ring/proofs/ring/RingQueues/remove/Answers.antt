@@ -6,7 +6,7 @@ use Rattle.ring.specs.Rounds.{turns_of}
 use Rattle.ring.specs.Turns.{message_at, queue}
 use Rattle.ring.specs.Sound.{at_turns}
 use Rattle.ring.proofs.Writes.{counted, at_read}
-use Rattle.ring.proofs.RingQueues.remove.Goals as goal
+use Rattle.ring.proofs.ring.RingQueues.remove.Goals as goal
 
 pub place-at-requires : goal.place-at-requires
 place-at-requires c =

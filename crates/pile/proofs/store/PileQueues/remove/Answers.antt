@@ -1,7 +1,7 @@
 use Rattle.std.proofs.Common.{None, Some, refl, arith}
 use Rattle.std.proofs.lemmas.Bool.{true≢false}
 use Rattle.pile.proofs.Means.{slot_found}
-use Rattle.pile.proofs.PileQueues.remove.Goals as goal
+use Rattle.pile.proofs.store.PileQueues.remove.Goals as goal
 
 pub returns-in_err-slot-clause-none : goal.returns-in_err-slot-clause-none
 returns-in_err-slot-clause-none c =
