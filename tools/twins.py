@@ -6,6 +6,7 @@ Usage: tools/twins.py [COMMIT]     (without COMMIT: the files as they are)
 One line for each group: how many tokens the body has, and the functions. Functions
 of fewer than 20 tokens, derived code and tests are left out.
 """
+import os
 import re
 import subprocess
 import sys
@@ -23,7 +24,8 @@ def files(commit):
     for name in names:
         if re.fullmatch(r"crates/[^/]+/src/.*\.rt", name) and not name.endswith("tests.rt") and "_tests/" not in name:
             if commit is None:
-                yield name, open(name, encoding="utf-8").read()
+                if os.path.exists(name):
+                    yield name, open(name, encoding="utf-8").read()
             else:
                 yield name, subprocess.run(["git", "show", f"{commit}:{name}"], capture_output=True, text=True, check=True).stdout
 
