@@ -74,8 +74,22 @@ impl Ring {
         2 * self.wrapped(at) + end.index()
     }
 
-    // Moves the messages ahead of a position one turn behind, over the message that stands there. At the oldest nothing moves.
+    // Closes the gap that a message leaves, from the side where fewer messages move: none at the oldest, and none at the newest.
+    #[tactic(auto, using(crate::proofs::Writes::counted))]
     fn close_gap(&mut self, end: End, position: usize)
+        requires { position < length (queue end (ring_ways self.old)) }
+        ensures { ring_ways self.new ≡ with_queue end (without position) (ring_ways self.old) }
+    {
+        let Turns { count, .. } = self.turns(end);
+        if position < count - position {
+            self.move_behind(end, position);
+        } else {
+            self.move_ahead(end, position);
+        }
+    }
+
+    // Moves the messages ahead of a position one turn behind, over the message that stands there.
+    fn move_behind(&mut self, end: End, position: usize)
         requires { position < length (queue end (ring_ways self.old)) }
         ensures { ring_ways self.new ≡ with_queue end (without position) (ring_ways self.old) }
     {
@@ -87,6 +101,24 @@ impl Ring {
         }
         let Turns { oldest, count } = self.turns(end);
         let oldest = self.wrapped(oldest + 1);
+        self.ends[end.index()] = Turns {
+            oldest,
+            count: count - 1,
+        };
+    }
+
+    // Moves the messages behind a position one turn ahead, over the message that stands there.
+    fn move_ahead(&mut self, end: End, position: usize)
+        requires { position < length (queue end (ring_ways self.old)) }
+        ensures { ring_ways self.new ≡ with_queue end (without position) (ring_ways self.old) }
+    {
+        let Turns { oldest, count } = self.turns(end);
+        for turn in position..count - 1 {
+            let from = self.place(end, turn + 1);
+            let to = self.place(end, turn);
+            let slot = self.slots[from];
+            self.slots[to] = slot;
+        }
         self.ends[end.index()] = Turns {
             oldest,
             count: count - 1,
@@ -109,11 +141,13 @@ impl Queues for Ring {
 
     #[tactic(auto, using(crate::proofs::Writes::counted))]
     fn spare(&self, end: End) -> usize {
-        self.capacity - self.waiting(end)
+        let Turns { count, .. } = self.turns(end);
+        self.capacity - count
     }
 
+    #[tactic(auto, using(crate::proofs::Writes::counted))]
     fn push(&mut self, end: End, slot: Slot) -> Result<(), Slot> {
-        let count = self.waiting(end);
+        let Turns { count, .. } = self.turns(end);
         if count >= self.capacity {
             return Err(slot);
         }
@@ -123,8 +157,10 @@ impl Queues for Ring {
         Ok(())
     }
 
+    #[tactic(auto, using(crate::proofs::Writes::counted))]
     fn remove(&mut self, end: End, position: usize) -> Option<Slot> {
-        if position >= self.waiting(end) {
+        let Turns { count, .. } = self.turns(end);
+        if position >= count {
             return None;
         }
         let at = self.place(end, position);

@@ -3,7 +3,7 @@ use Rattle.route.specs.Ends.{end_number}
 use Rattle.ring.specs.Rounds.{turns_of}
 use Rattle.ring.specs.Turns.{turn, queue}
 use Rattle.ring.proofs.Writes.{moved_behind}
-use Rattle.ring.proofs.ring.Ring.close_gap.Given as goal
+use Rattle.ring.proofs.ring.Ring.move_behind.Given as goal
 
 -- the messages from the turn on have moved one turn behind, as far as the gap, and the other end's are as they were
 abbrev pub invariant-loop-turn : goal.invariant-loop-turn

@@ -8,7 +8,7 @@ use Rattle.ring.specs.Rounds.{place, turns_of}
 use Rattle.ring.specs.Turns.{message_at, queue}
 use Rattle.ring.specs.Sound.{length-turns, at_turns}
 use Rattle.ring.proofs.Writes.{at_read, turns_other, turns_without, moved_behind, moved_more, written}
-use Rattle.ring.proofs.ring.Ring.close_gap.Goals as goal
+use Rattle.ring.proofs.ring.Ring.move_behind.Goals as goal
 
 pub loop-turn-init : goal.loop-turn-init
 loop-turn-init c =
