@@ -52,3 +52,7 @@ moved_up e k (Some w) =
 -- a record as that message goes
 abbrev pub with_moved_up : ℕ → ℕ → Record → Record
 with_moved_up e k r = record { tag = moved_up e k r.tag; slot = r.slot }
+
+-- a record that is made free
+abbrev pub freed : Record → Record
+freed r = record { tag = None; slot = r.slot }

@@ -41,7 +41,7 @@ impl Record {
     pub(crate) fn is_toward(&self, end: End) -> bool
         ensures { result ≡ toward_end (end_number end) self.now.tag }
     {
-        self.tag.is_some_and(|waiting| waiting.end == end)
+        matches!(self.tag, Some(Waiting { end: to, .. }) if to == end)
     }
 
     // It holds the message with a queue number toward an end.

@@ -7,7 +7,7 @@ ghost use Rattle.route.specs.Ways.{empty_ways, without};
 ghost use Rattle.pile.specs.Numbers.{waiting, Numbered};
 
 use crate::records::{Record, Waiting};
-use crate::upkeep::{count_toward, free_place, move_up, slot_numbered};
+use crate::upkeep::{clear, count_toward, free_place, move_up, slot_numbered};
 use message::fault::{Fault, Refusal};
 use route::{End, Queues, Slot};
 
@@ -35,8 +35,15 @@ impl Pile {
         if records.len() < FEWEST_RECORDS {
             return Err(Refusal::MemorySize.at(0));
         }
-        records.fill(Record::unused());
+        clear(&mut records);
         Ok(Pile { records })
+    }
+
+    // How many messages wait toward an end: all records are looked at, so a call asks once.
+    fn queued(&self, end: End) -> usize
+        ensures { result ≡ length (queue end (pile_ways self.now)) }
+    {
+        count_toward(&self.records, end)
     }
 
     // The message at a position toward an end goes: those behind it move up.
@@ -57,19 +64,19 @@ impl Queues for Pile {
     ghost sound = { pile_sound };
 
     fn waiting(&self, end: End) -> usize {
-        count_toward(&self.records, end)
+        self.queued(end)
     }
 
     #[tactic(auto, using(crate::proofs::Means::fits))]
     fn spare(&self, end: End) -> usize {
-        self.records.len() / 2 - self.waiting(end)
+        self.records.len() / 2 - self.queued(end)
     }
 
     fn push(&mut self, end: End, slot: Slot) -> Result<(), Slot> {
-        if self.spare(end) == 0 {
+        let number = self.queued(end);
+        if number >= self.records.len() / 2 {
             return Err(slot);
         }
-        let number = self.waiting(end);
         let Some(place) = free_place(&self.records) else {
             unreachable!()
         };

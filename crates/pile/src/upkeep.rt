@@ -1,7 +1,7 @@
 // All records in turn.
 ghost use Rattle.std.specs.Prelude.{◌≡◌, map, find, position, option_map};
 ghost use Rattle.route.specs.Ends.{end_number};
-ghost use Rattle.pile.specs.Numbers.{is_free, waits, waiting, with_moved_up};
+ghost use Rattle.pile.specs.Numbers.{is_free, waits, waiting, with_moved_up, freed};
 
 use crate::records::Record;
 use route::{End, Slot};
@@ -40,5 +40,14 @@ pub(crate) fn move_up(records: &mut [Record], end: End, gone: usize)
 {
     for record in records.iter_mut() {
         record.move_up(end, gone);
+    }
+}
+
+// Makes all records free. Their slots keep what stands there, for it is none of the pile.
+pub(crate) fn clear(records: &mut [Record])
+    ensures { records.new ≡ map freed records.old }
+{
+    for record in records.iter_mut() {
+        record.tag = None;
     }
 }
