@@ -22,7 +22,9 @@ impl<Q: Queues> Route for Q {
     fn take(&mut self, end: u32, buffer: &mut [u8]) -> Result<usize, Fault> {
         check_buffer(buffer)?;
         let end = End::try_from(end)?;
-        let slot = self.remove(end, 0).ok_or(Refusal::NoMessage.at(0))?;
+        let Some(slot) = self.remove(end, 0) else {
+            return Err(Refusal::NoMessage.at(0));
+        };
         let message = slot.message();
         buffer[0..message.len()].copy_from_slice(message);
         Ok(message.len())
@@ -41,8 +43,9 @@ impl<Q: Queues> Route for Q {
 impl<Q: Queues> BenchRoute for Q {
     fn lose(&mut self, end: u32, position: u32) -> Result<(), Fault> {
         let end = End::try_from(end)?;
-        self.remove(end, position as usize)
-            .ok_or(Refusal::NoMessage.at(0))?;
-        Ok(())
+        match self.remove(end, position as usize) {
+            Some(_) => Ok(()),
+            None => Err(Refusal::NoMessage.at(0)),
+        }
     }
 }
