@@ -1,18 +1,31 @@
 // What one line of input comes to.
+ghost use Rattle.std.specs.Prelude.{Some};
+ghost use Rattle.decode.specs.Words.{line_fault_text};
+
 use crate::failure::Failure;
 use hex_text::text::HexFault;
 use notation::description::describe;
 use std::alloc::{AllocError, Global};
-use std::io;
+use std::{fmt, io};
 use thiserror::Error;
 
 // Why a line is no octets.
 #[derive(Debug, Drop, Error)]
 pub enum LineFault {
-    #[error(transparent)]
     Hex(#[from] HexFault),
-    #[error("not UTF-8 text")]
     Encoding,
+}
+
+// What is printed behind the line's number: by hand, since a derived Display has no contract.
+impl fmt::Display for LineFault {
+    ghost output = { λ fault. Some (line_fault_text fault) };
+
+    fn fmt<W: fmt::Write>(&self, f: &mut fmt::Formatter<W>) -> fmt::Result {
+        match self {
+            LineFault::Hex(fault) => fault.fmt(f),
+            LineFault::Encoding => f.write_str("not UTF-8 text"),
+        }
+    }
 }
 
 // The answer to a line, or its fault. A failure is no fault of the line.

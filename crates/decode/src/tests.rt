@@ -1,5 +1,5 @@
 // Lines that are no message.
-use crate::input::answer;
+use crate::input::{answer, read};
 use std::test::Fail;
 
 const SKIPPED: [&str; 4] = ["", " \t", "# 01 02", "  # -"];
@@ -25,7 +25,7 @@ fn skipped(rt: HostRuntime) {
 fn faults(rt: HostRuntime) -> Result<(), Fail> {
     let heap = rt.alloc();
     for (line, says) in FAULTS {
-        let Err(fault) = answer(heap, line) else {
+        let Ok(Err(fault)) = read(heap, Ok(line.to_string(heap)?)) else {
             return Err(Fail::new(line));
         };
         assert_eq!(rt; fault.to_string(heap)?.as_str(), says, "{}", line);
