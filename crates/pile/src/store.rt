@@ -39,7 +39,8 @@ impl Pile {
         Ok(Pile { records })
     }
 
-    // How many messages wait toward an end: all records are looked at, so a call asks once.
+    // How many messages wait toward an end: all records are looked at, so a call asks once. COUNT alone asks `waiting`, so that an
+    // edit there turns no other call.
     fn queued(&self, end: End) -> usize
         ensures { result ≡ length (queue end (pile_ways self.now)) }
     {

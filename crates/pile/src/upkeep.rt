@@ -10,10 +10,13 @@ use route::{End, Slot};
 pub(crate) fn count_toward(records: &[Record], end: End) -> usize
     ensures { result ≡ waiting (end_number end) records.now }
 {
-    records
-        .iter()
-        .filter(|record| record.is_toward(end))
-        .count()
+    let mut count = 0;
+    for record in records {
+        if record.is_toward(end) {
+            count += 1;
+        }
+    }
+    count
 }
 
 // The slot of the message with a queue number toward an end, if one has it.
@@ -43,7 +46,7 @@ pub(crate) fn move_up(records: &mut [Record], end: End, gone: usize)
     }
 }
 
-// Makes all records free. Their slots keep what stands there, for it is none of the pile.
+// Makes all records free. What stands in a free record's slot means nothing, and stays.
 pub(crate) fn clear(records: &mut [Record])
     ensures { records.new ≡ map freed records.old }
 {

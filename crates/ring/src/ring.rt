@@ -50,6 +50,14 @@ impl Ring {
         self.ends[end.index()]
     }
 
+    // How many messages wait toward an end. COUNT alone asks `waiting`, so that an edit there turns no other call.
+    #[tactic(auto, using(crate::proofs::Writes::counted))]
+    fn queued(&self, end: End) -> usize
+        ensures { result ≡ length (queue end (ring_ways self.now)) }
+    {
+        self.turns(end).count
+    }
+
     // A place in the round of an end's slots, which begins again behind its last place.
     fn wrapped(&self, at: usize) -> usize
         requires { at < self.now.capacity + self.now.capacity }
@@ -75,13 +83,11 @@ impl Ring {
     }
 
     // Closes the gap that a message leaves, from the side where fewer messages move: none at the oldest, and none at the newest.
-    #[tactic(auto, using(crate::proofs::Writes::counted))]
     fn close_gap(&mut self, end: End, position: usize)
         requires { position < length (queue end (ring_ways self.old)) }
         ensures { ring_ways self.new ≡ with_queue end (without position) (ring_ways self.old) }
     {
-        let Turns { count, .. } = self.turns(end);
-        if position < count - position {
+        if position < self.queued(end) - position {
             self.move_behind(end, position);
         } else {
             self.move_ahead(end, position);
@@ -134,20 +140,17 @@ impl Queues for Ring {
 
     ghost sound = { ring_sound };
 
-    #[tactic(auto, using(crate::proofs::Writes::counted))]
     fn waiting(&self, end: End) -> usize {
-        self.turns(end).count
+        self.queued(end)
     }
 
     #[tactic(auto, using(crate::proofs::Writes::counted))]
     fn spare(&self, end: End) -> usize {
-        let Turns { count, .. } = self.turns(end);
-        self.capacity - count
+        self.capacity - self.queued(end)
     }
 
-    #[tactic(auto, using(crate::proofs::Writes::counted))]
     fn push(&mut self, end: End, slot: Slot) -> Result<(), Slot> {
-        let Turns { count, .. } = self.turns(end);
+        let count = self.queued(end);
         if count >= self.capacity {
             return Err(slot);
         }
@@ -157,9 +160,8 @@ impl Queues for Ring {
         Ok(())
     }
 
-    #[tactic(auto, using(crate::proofs::Writes::counted))]
     fn remove(&mut self, end: End, position: usize) -> Option<Slot> {
-        let Turns { count, .. } = self.turns(end);
+        let count = self.queued(end);
         if position >= count {
             return None;
         }

@@ -3,7 +3,7 @@ use Rattle.route.specs.Ends.{end_number}
 use Rattle.route.specs.Stored.{message_of}
 use Rattle.route.proofs.Calls.{two_ends}
 use Rattle.ring.specs.Rounds.{place, turns_of}
-use Rattle.ring.proofs.Writes.{turns_put, turns_other, written}
+use Rattle.ring.proofs.Writes.{counted, turns_put, turns_other, written}
 use Rattle.ring.proofs.ring.RingQueues.push.Goals as goal
 
 pub returns-clause-added : goal.returns-clause-added
@@ -16,7 +16,7 @@ returns-clause-added c =
     let t = turns_of r.ends e in
     let two = two_ends c.args.end in
     let i = c.index.ensures.value in
-    let k : c.turns-count.result.count ≡ t.count = ap (λ u. u.count) c.turns-count.ensures in
+    let k : c.queued-count.result ≡ t.count = c.queued-count.ensures ∙ counted r c.args.end in
     let p : c.place-at.result ≡ place e n t.oldest t.count = c.place-at.ensures.value ∙ ap (place e n t.oldest) k in
     let room : t.count < n = omega (arith, c.if-count-self.false, k) in
     let space : n + n ≤ length l = omega (arith, r.halves, r.slots.ok.0) in

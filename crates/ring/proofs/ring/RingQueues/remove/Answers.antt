@@ -5,13 +5,13 @@ use Rattle.route.proofs.Calls.{queue_of, two_ends}
 use Rattle.ring.specs.Rounds.{turns_of}
 use Rattle.ring.specs.Turns.{message_at, queue}
 use Rattle.ring.specs.Sound.{at_turns}
-use Rattle.ring.proofs.Writes.{at_read}
+use Rattle.ring.proofs.Writes.{counted, at_read}
 use Rattle.ring.proofs.ring.RingQueues.remove.Goals as goal
 
 pub place-at-requires : goal.place-at-requires
 place-at-requires c =
     let r = c.args.self.now in
-    omega (arith, ap (λ u. u.count) c.turns-count.ensures, c.if-position-count.false, r.within (end_number c.args.end) (two_ends c.args.end))
+    omega (arith, c.queued-count.ensures, counted r c.args.end, r.within (end_number c.args.end) (two_ends c.args.end))
 
 pub returns-clause-message : goal.returns-clause-message
 returns-clause-message c =
@@ -20,6 +20,6 @@ returns-clause-message c =
     let l = r.slots.items in
     let t = turns_of r.ends e in
     let k = c.args.position in
-    let some : k < t.count = omega (arith, ap (λ u. u.count) c.turns-count.ensures, c.if-position-count.false) in
+    let some : k < t.count = omega (arith, counted r c.args.end, c.queued-count.ensures, c.if-position-count.false) in
     ap message_of c.index-slot.ensures ∙ at_read l c.place-at.result c.index-slot.result.now (omega (arith, c.place-at.ensures.below, r.slots.ok.0))
     ∙ ap (message_at l) c.place-at.ensures.value ∙ sym (at_turns l e r.capacity t.oldest t.count k some) ∙ ap (λ q. get_or q k []) (sym (queue_of c.args.end (queue r) r.capacity))
