@@ -6,7 +6,7 @@ ghost use Rattle.pile.specs.Numbers.{is_free, waits, waiting, with_moved_up, fre
 use crate::records::Record;
 use route::{End, Slot};
 
-// How many messages wait toward an end.
+// How many messages wait toward an end. A loop, since with a filter that is counted PUT on a full pile takes half as long again.
 pub(crate) fn count_toward(records: &[Record], end: End) -> usize
     ensures { result ≡ waiting (end_number end) records.now }
 {
