@@ -1,5 +1,6 @@
 // Lines that are no message.
 use crate::input::{answer, read};
+use std::io;
 use std::test::Fail;
 
 const SKIPPED: [&str; 4] = ["", " \t", "# 01 02", "  # -"];
@@ -30,5 +31,17 @@ fn faults(rt: HostRuntime) -> Result<(), Fail> {
         };
         assert_eq!(rt; fault.to_string(heap)?.as_str(), says, "{}", line);
     }
+    Ok(())
+}
+
+// A line that is not UTF-8, as the lines of a reader give it, is a fault of the line and no failure.
+#[test]
+fn not_utf_8(rt: HostRuntime) -> Result<(), Fail> {
+    let heap = rt.alloc();
+    let line = Err(io::Error::from(io::ErrorKind::InvalidData));
+    let Ok(Err(fault)) = read(heap, line) else {
+        return Err(Fail::new("not UTF-8"));
+    };
+    assert_eq!(rt; fault.to_string(heap)?.as_str(), "not UTF-8 text");
     Ok(())
 }
