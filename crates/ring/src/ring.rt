@@ -140,8 +140,10 @@ impl Queues for Ring {
 
     ghost sound = { ring_sound };
 
+    #[tactic(auto, using(crate::proofs::Writes::counted))]
     fn waiting(&self, end: End) -> usize {
-        self.queued(end)
+        let Turns { count, .. } = self.turns(end);
+        count
     }
 
     #[tactic(auto, using(crate::proofs::Writes::counted))]
